@@ -1,0 +1,14 @@
+pub mod Acceptances
+pub mod Beginning
+pub mod Feed
+pub mod Frames
+pub mod Invariant
+pub mod Messages
+pub mod Pages
+pub mod Plans
+pub mod Reachable
+pub mod SoundPlans
+pub mod SoundSteps
+pub mod Soundness
+pub mod Steps
+pub mod Theorem

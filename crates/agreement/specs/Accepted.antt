@@ -1,0 +1,48 @@
+-- Who has accepted what, told from the list of steps. Document 01: "Otherwise Next becomes that position + 1 and Acc(that
+-- position) goes to q; by this answer, done in the run, and by nothing else, p has accepted the recorded view at that position."
+use Prim.Native.Nat.{ℕ}
+use mathlib.Core.Bool.{Bool, false, _&&_, _||_}
+use mathlib.Core.List.{List, [], _∷_, _++_}
+use lib.Dec.{ltb, eqb}
+use Rattle.view.specs.Logic.{pick}
+use Rattle.system.specs.declared.Pending.{Pending}
+use Rattle.system.specs.declared.Pending.the-variants.{Nothing, Proposal}
+use Rattle.system.specs.declared.Process.{Process}
+use Rattle.system.specs.declared.System.{System}
+use Rattle.system.specs.Process.{pendingAt}
+use Rattle.system.specs.System.{processAt}
+use Rattle.step.specs.declared.Step.{Step}
+use Rattle.step.specs.declared.Step.the-variants.{Report, Receive, Respond, Crash}
+use Rattle.step.specs.Step.{stepped}
+
+pub record Acceptance : Type 0 where
+  pub process : ℕ
+  pub view : ℕ
+  pub index : ℕ
+
+-- an answer of p, whose variables are x, to what it has recorded: a Retry accepts nothing
+unfoldable pub acceptedFrom : ℕ → Process → Pending → List Acceptance
+acceptedFrom p x Nothing = []
+acceptedFrom p x (Proposal v i) = pick (ltb (i .0) (x .next .0)) [] (record { process = p; view = v; index = i .0 } ∷ [])
+
+-- an answer done, and nothing else
+unfoldable pub acceptedBy : System → Step → List Acceptance
+acceptedBy s (Report p v) = []
+acceptedBy s (Receive q p) = []
+acceptedBy s (Respond p q) =
+    pick (eqb (stepped s (Respond p q) .refusal) 0)
+    (acceptedFrom (p .0) (processAt s (p .0)) (pendingAt (processAt s (p .0)) (q .0)))
+    []
+acceptedBy s (Crash p) = []
+
+unfoldable pub acceptedIn : System → List Step → List Acceptance
+acceptedIn s [] = []
+acceptedIn s (o ∷ os) = acceptedBy s o ++ acceptedIn (stepped s o .system) os
+
+abbrev pub isThis : Acceptance → ℕ → ℕ → ℕ → Bool
+isThis a u v i = eqb (a .process) u && eqb (a .view) v && eqb (a .index) i
+
+-- process u has accepted view v at index i
+unfoldable pub accepted : List Acceptance → ℕ → ℕ → ℕ → Bool
+accepted [] u v i = false
+accepted (a ∷ rest) u v i = isThis a u v i || accepted rest u v i

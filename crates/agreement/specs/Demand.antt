@@ -1,0 +1,28 @@
+-- Demand 3 of the user's words, of the system that a list of steps leaves, with the first of them done on a fresh system.
+use Prim.Native.Nat.{ℕ}
+use mathlib.Core.Path.{_≡_}
+use mathlib.Core.Bool.{true}
+use mathlib.Core.List.{List, _++_}
+use Rattle.view.specs.View.{has}
+use Rattle.system.specs.declared.System.{System}
+use Rattle.system.specs.Fresh.{freshOf}
+use Rattle.step.specs.declared.Step.{Step}
+use Rattle.step.specs.Step.{ran}
+use Rattle.agreement.specs.Accepted.{acceptedIn}
+use Rattle.agreement.specs.Book.{Agreement, isWritten, entryOf, bookEntry, opened, fedAll, noneRefused}
+
+abbrev pub start : ℕ → System
+start n = freshOf n .system
+
+pub record Demand (n : ℕ) (os : List Step) : Type 0 where
+  -- "after the list the written entries of all units are, position by position, exactly those that some agreements, made one at a
+  -- time and none refused, leave in the book"
+  pub agreements : List Agreement
+  pub none-refused : noneRefused (acceptedIn (start n) os) (opened (start n)) agreements ≡ true
+  pub book-is : (p i : ℕ) → bookEntry (fedAll (acceptedIn (start n) os) (opened (start n)) agreements) p i ≡ entryOf (ran (start n) os) p i
+  -- "An entry written after any first part of the list is the same after all of it."
+  pub kept : (first rest : List Step) → first ++ rest ≡ os → (p i : ℕ) → isWritten (entryOf (ran (start n) first) p i) ≡ true
+      → entryOf (ran (start n) os) p i ≡ entryOf (ran (start n) first) p i
+  -- "So two units never have two different views with a unit in common written at one position."
+  pub consistent : (p q i u : ℕ) → has (entryOf (ran (start n) os) p i) u ≡ true → has (entryOf (ran (start n) os) q i) u ≡ true
+      → entryOf (ran (start n) os) p i ≡ entryOf (ran (start n) os) q i

@@ -1,0 +1,74 @@
+-- The agreement rule at work on sheet K2: what its steps have accepted, the two agreements that leave K2's entries in the book, and
+-- an agreement refused for each reason that the rule gives. A view is its byte: 1 is {1}, 2 is {2}, 3 is {1,2}.
+use Prim.Native.Nat.{ℕ}
+use mathlib.Core.Bool.{Bool, true, false}
+use mathlib.Core.List.{List, [], _∷_}
+use Rattle.agreement.specs.Accepted.{Acceptance}
+use Rattle.agreement.specs.Book.{Agreement, Book, opened, fed, admits}
+use Rattle.agreement.specs.Demand.{start}
+
+unfoldable pub acceptance : ℕ → ℕ → ℕ → Acceptance
+acceptance u v i = record { process = u; view = v; index = i }
+
+unfoldable pub agreement : ℕ → ℕ → ℕ → Agreement
+agreement v i writers = record { view = v; index = i; writers = writers }
+
+-- what the steps of K2 have accepted, in their order
+unfoldable pub k2-accepted : List Acceptance
+k2-accepted = acceptance 2 2 2 ∷ acceptance 1 3 2 ∷ acceptance 1 3 3 ∷ acceptance 2 3 3 ∷ []
+
+-- the agreements of K2
+unfoldable pub k2-agreements : List Agreement
+k2-agreements = agreement 2 2 2 ∷ agreement 3 3 3 ∷ []
+
+-- the book at the start of K2, after its first agreement, and after one at 3 of which process 1 alone is written
+unfoldable pub k2-book : Book
+k2-book = opened (start 2)
+
+unfoldable pub at-two : Book
+at-two = fed k2-accepted k2-book (agreement 2 2 2)
+
+unfoldable pub at-three : Book
+at-three = fed k2-accepted k2-book (agreement 3 3 1)
+
+-- both processes have accepted {1,2} at 4, and process 1 has accepted {1} there too: no list of steps does that
+unfoldable pub twice-accepted : List Acceptance
+twice-accepted = acceptance 1 3 4 ∷ acceptance 2 3 4 ∷ acceptance 1 1 4 ∷ []
+
+unfoldable pub shared : Book
+shared = fed twice-accepted k2-book (agreement 3 4 2)
+
+pub record Trial : Type 0 where
+  pub accepted : List Acceptance
+  pub book : Book
+  pub agreement : Agreement
+  pub made : Bool
+
+abbrev trial : List Acceptance → Book → Agreement → Bool → Trial
+trial a b g m = record { accepted = a; book = b; agreement = g; made = m }
+
+unfoldable pub trials : List Trial
+trials =
+    -- the first agreement, and after it the second
+    trial k2-accepted k2-book (agreement 2 2 2) true
+    ∷ trial k2-accepted at-two (agreement 3 3 3) true
+    -- process 2 has not accepted {1,2} at 2
+    ∷ trial k2-accepted k2-book (agreement 3 2 1) false
+    -- the index is below that of the last one made
+    ∷ trial k2-accepted at-three (agreement 2 2 2) false
+    -- the index is not empty in the book at process 2
+    ∷ trial k2-accepted at-two (agreement 2 2 2) false
+    -- index 4 is empty at process 1, but an agreement made there names it too
+    ∷ trial twice-accepted k2-book (agreement 1 4 1) true
+    ∷ trial twice-accepted shared (agreement 1 4 1) false
+    -- nobody is to be written
+    ∷ trial k2-accepted k2-book (agreement 2 2 0) false
+    -- another than a process of the view is to be written
+    ∷ trial k2-accepted k2-book (agreement 2 2 3) false
+    ∷ []
+
+unfoldable pub isMade : Trial → Bool
+isMade t = admits (t .accepted) (t .book) (t .agreement)
+
+abbrev pub shouldBeMade : Trial → Bool
+shouldBeMade t = t .made

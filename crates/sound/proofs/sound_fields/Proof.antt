@@ -1,0 +1,112 @@
+-- `sound::sound_fields`: the parts in their order, the last by whether PropOut is 1.
+use Prim.Native.Nat.{ℕ}
+use mathlib.Core.Path.{_≡_}
+use mathlib.Core.Bool.{Bool, _&&_}
+use borrow.Author.Tests.{ne-eqb}
+use Rattle.view.specs.View.{has, within}
+use Rattle.system.specs.declared.Process.{Process}
+use Rattle.view.specs.Logic.{pick}
+use Rattle.sound.specs.Sound.{between, soundFields}
+use borrow.Author.Needs.{needs}
+use Rattle.sound.proofs.sound_fields.Statement.{statement}
+use Rattle.sound.proofs.sound_fields.Tie as tie
+
+between-requires : tie.Need-between-requires
+between-requires c κs = search needs
+
+between-requires-2 : tie.Need-between-requires-2
+between-requires-2 c κs = search needs
+
+and-requires : tie.Need-and-requires
+and-requires c κs = search needs
+
+within-requires : tie.Need-within-requires
+within-requires c κs = search needs
+
+and-requires-2 : tie.Need-and-requires-2
+and-requires-2 c κs = search needs
+
+within-requires-2 : tie.Need-within-requires-2
+within-requires-2 c κs = search needs
+
+and-requires-3 : tie.Need-and-requires-3
+and-requires-3 c κs = search needs
+
+within-requires-3 : tie.Need-within-requires-3
+within-requires-3 c κs = search needs
+
+and-requires-4 : tie.Need-and-requires-4
+and-requires-4 c κs = search needs
+
+has-requires : tie.Need-has-requires
+has-requires c κs = search needs
+
+and-requires-5 : tie.Need-and-requires-5
+and-requires-5 c κs = search needs
+
+and-requires-6 : tie.Need-and-requires-6
+and-requires-6 c κs = search needs
+
+has-requires-2 : tie.Need-has-requires-2
+has-requires-2 c κs = search needs
+
+and-requires-7 : tie.Need-and-requires-7
+and-requires-7 c κs = search needs
+
+-- all parts but the last
+abbrev owned : ℕ → ℕ → Process → Bool
+owned n p x =
+    between 2 33 (x .next .0)
+    && between 1 32 (x .propout .0)
+    && within n (x .view)
+    && within n (x .proposal)
+    && within n (x .acks)
+    && has (x .view) p
+
+own-is : (c : tie.After-struct-known) → c .before .and5 .result ≡ owned
+    (c .before .before .before .before .before .before .before .before .before .before .before .before .before .before .args .n)
+    (c .before .before .before .before .before .before .before .before .before .before .before .before .before .before .args .p .0)
+    (c .before .before .before .before .before .before .before .before .before .before .before .before .before .before .args .x)
+own-is c =
+    rw (
+      c .before .and5 .ensures,
+      c .before .before .has .ensures,
+      c .before .before .before .and4 .ensures,
+      c .before .before .before .before .within3 .ensures,
+      c .before .before .before .before .before .and3 .ensures,
+      c .before .before .before .before .before .before .within2 .ensures,
+      c .before .before .before .before .before .before .before .and2 .ensures,
+      c .before .before .before .before .before .before .before .before .within .ensures,
+      c .before .before .before .before .before .before .before .before .before .and .ensures,
+      c .before .before .before .before .before .before .before .before .before .before .between2 .ensures,
+      c .before .before .before .before .before .before .before .before .before .before .before .between .ensures,
+    )
+
+returns : tie.Need-returns
+unfolding soundFields pick
+returns c = rw (c .and6 .ensures, own-is (c .before .before .before)) (simp (c .before .before .if1 .taken))
+
+returns-2 : tie.Need-returns-2
+unfolding soundFields pick
+returns-2 c = rw (c .and7 .ensures, own-is (c .before .before .before), c .before .has2 .ensures) (simp (ne-eqb _ _ (c .before .before .if1 .left)))
+
+pub sound-fields-spec : {M : Type 1} → statement M
+sound-fields-spec =
+    tie.close
+    (tie.spec
+    between-requires
+    between-requires-2
+    and-requires
+    within-requires
+    and-requires-2
+    within-requires-2
+    and-requires-3
+    within-requires-3
+    and-requires-4
+    has-requires
+    and-requires-5
+    and-requires-6
+    has-requires-2
+    and-requires-7
+    returns
+    returns-2)

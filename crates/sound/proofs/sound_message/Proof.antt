@@ -1,0 +1,82 @@
+-- `sound::sound_message`: by the kind of message.
+use mathlib.Core.Path.{sym, _∙_}
+use native.Mathlib.Omega.{arith}
+use borrow.Author.Tests.{leb-true}
+use lib.Dec.{leb}
+use Rattle.sound.specs.Sound.{soundMessage}
+use Rattle.view.proofs.Laws.{and-right}
+use borrow.Author.Needs.{needs}
+use Rattle.sound.proofs.sound_message.Statement.{statement}
+use Rattle.sound.proofs.sound_message.Tie as tie
+
+enum-known-m : tie.Need-enum-known-m
+enum-known-m c = search needs
+
+sound-proposal-requires : tie.Need-sound-proposal-requires
+sound-proposal-requires c κs = search needs
+
+enum-known-m-2 : tie.Need-enum-known-m-2
+enum-known-m-2 c = search needs
+
+between-requires : tie.Need-between-requires
+between-requires c κs = search needs
+
+add-between : tie.Need-add-between
+add-between c =
+    let k = c .before .before .before .before .m2 .given .0 .0 .0 in
+    omega (arith, leb-true k 32 (and-right (leb 2 k) (leb k 32) (sym (c .before .before .between .ensures) ∙ c .before .if1 .taken)))
+
+between-requires-2 : tie.Need-between-requires-2
+between-requires-2 c κs = search needs
+
+enum-known-m-3 : tie.Need-enum-known-m-3
+enum-known-m-3 c = search needs
+
+between-requires-3 : tie.Need-between-requires-3
+between-requires-3 c κs = search needs
+
+enum-known-m-4 : tie.Need-enum-known-m-4
+enum-known-m-4 c = search needs
+
+sound-proposal-requires-2 : tie.Need-sound-proposal-requires-2
+sound-proposal-requires-2 c κs = search needs
+
+returns : tie.Need-returns
+unfolding soundMessage
+returns c = simp (c .before .before .m .given .1, c .sound-proposal .ensures)
+
+returns-2 : tie.Need-returns-2
+unfolding soundMessage
+returns-2 c = simp (c .before .before .before .before .before .m2 .given .1, ← c .before .before .before .between .ensures, c .before .before .if1 .taken, c .between2 .ensures)
+
+returns-3 : tie.Need-returns-3
+unfolding soundMessage
+returns-3 c = simp (c .before .before .before .m2 .given .1, ← c .before .between .ensures, c .if1 .left)
+
+returns-4 : tie.Need-returns-4
+unfolding soundMessage
+returns-4 c = simp (c .before .before .m3 .given .1, c .between3 .ensures)
+
+returns-5 : tie.Need-returns-5
+unfolding soundMessage
+returns-5 c = simp (c .before .before .m4 .given .1, c .sound-proposal2 .ensures)
+
+pub sound-message-spec : {M : Type 1} → statement M
+sound-message-spec =
+    tie.close
+    (tie.spec
+    enum-known-m
+    sound-proposal-requires
+    enum-known-m-2
+    between-requires
+    add-between
+    between-requires-2
+    enum-known-m-3
+    between-requires-3
+    enum-known-m-4
+    sound-proposal-requires-2
+    returns
+    returns-2
+    returns-3
+    returns-4
+    returns-5)

@@ -1,0 +1,79 @@
+-- `sound::sound_process`: after i turns the flag says whether the records from the first i processes are sound.
+use Prim.Native.Nat.{_-_, _≤_}
+use mathlib.Core.Path.{_≡_, _∙_}
+use native.Mathlib.Omega.{arith}
+use lib.ListN.{length}
+use Rattle.view.proofs.Laws.{long}
+use Rattle.sound.proofs.Laws.{recordsSoFar, record-none, record-again, record-all}
+use borrow.Author.Needs.{needs}
+use Rattle.sound.proofs.sound_process.Statement.{statement}
+use Rattle.sound.proofs.sound_process.Tie as tie
+
+abbrev Inv-loop : tie.InvT-loop
+Inv-loop n p x ok₀ i₀ ok i = (i ≤ n) × (n ≤ 8) × (length (x .pending) ≡ 8) × (ok ≡ recordsSoFar n (p .0) x i)
+
+abbrev μ-loop : tie.MeasureT-loop
+μ-loop n p x ok₀ i₀ ok i = n - i
+
+sound-fields-requires : tie.Need-sound-fields-requires Inv-loop μ-loop
+sound-fields-requires c κs = search needs
+
+sound-history-requires : tie.Need-sound-history-requires Inv-loop μ-loop
+sound-history-requires c κs = search needs
+
+and-requires : tie.Need-and-requires Inv-loop μ-loop
+and-requires c κs = search needs
+
+loop-holds : tie.Need-loop-holds Inv-loop μ-loop
+loop-holds c = (omega arith, search needs, (search long), record-none _ _ _ _ _ _ (c .and .ensures) (c .before .before .sound-fields .ensures) (c .before .sound-history .ensures))
+
+cast-s : tie.Need-cast-s Inv-loop μ-loop
+cast-s c = search needs
+
+mul-s : tie.Need-mul-s Inv-loop μ-loop
+mul-s c = search needs
+
+element-copy-out-s : tie.Need-element-copy-out-s Inv-loop μ-loop
+element-copy-out-s c = search needs
+
+add-i : tie.Need-add-i Inv-loop μ-loop
+add-i c = search needs
+
+sound-pending-requires : tie.Need-sound-pending-requires Inv-loop μ-loop
+sound-pending-requires c κs = search needs
+
+and-requires-2 : tie.Need-and-requires-2 Inv-loop μ-loop
+and-requires-2 c κs = search needs
+
+loop-less : tie.Need-loop-less Inv-loop μ-loop
+loop-less c = search needs
+
+loop-again : tie.Need-loop-again Inv-loop μ-loop
+loop-again c =
+    let i = c .before .before .before .before .loop .inv in
+    (omega arith, i .1, i .2, record-again _ _ _ _ _ _ _ _ (omega arith) (i .3) (c .and2 .ensures) (c .before .sound-pending .ensures))
+
+returns : tie.Need-returns Inv-loop μ-loop
+returns c =
+    let end : c .before .loop .i ≡ c .before .before .before .before .before .before .args .n = omega arith in
+    rw end at (c .before .loop .inv .3) ∙ record-all _ _ _
+
+pub sound-process-spec : {M : Type 1} → statement M
+sound-process-spec =
+    tie.close
+    (tie.spec
+    Inv-loop
+    μ-loop
+    sound-fields-requires
+    sound-history-requires
+    and-requires
+    loop-holds
+    cast-s
+    mul-s
+    element-copy-out-s
+    add-i
+    sound-pending-requires
+    and-requires-2
+    loop-less
+    loop-again
+    returns)

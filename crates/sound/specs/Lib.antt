@@ -1,0 +1,2 @@
+-- When a system is sound.
+pub mod Sound

@@ -1,0 +1,85 @@
+-- Document 01's table, called the system here: n processes and, between every ordered pair of them, one channel.
+-- The channels that one process sends on are a row.
+use Prim.Native.Nat.{ℕ}
+use mathlib.Core.Bool.{Bool, false, _||_, not}
+use lib.ListN.{replicate}
+use Rattle.view.specs.Logic.{pick, allUpTo, eachUpTo, at, put}
+use Rattle.view.specs.View.{has}
+use Rattle.channel.specs.declared.Message.{Message}
+use Rattle.channel.specs.declared.Channel.{Channel}
+use Rattle.channel.specs.Channel.{emptyChannel, hasRoom, pushed}
+use Rattle.system.specs.declared.Pending.the-variants.{Nothing}
+use Rattle.system.specs.declared.Process.{Process}
+use Rattle.system.specs.declared.Row.{Row}
+use Rattle.system.specs.declared.System.{System}
+use Rattle.system.specs.declared.Outcome.{Outcome}
+use Rattle.system.specs.Process.{noEntries, pendingSlot}
+
+-- what is read where there is no process or no row of that number
+unfoldable pub noProcess : Process
+noProcess =
+    record {
+      crashed = false;
+      view = 0;
+      next = record { 0 = 0 };
+      propout = record { 0 = 0 };
+      proposal = 0;
+      acks = 0;
+      pending = replicate 8 (pendingSlot Nothing);
+      history = noEntries;
+    }
+
+unfoldable pub emptyRow : Row
+emptyRow = record { channels = replicate 8 emptyChannel }
+
+unfoldable pub processAt : System → ℕ → Process
+processAt s p = at (s .processes) p noProcess
+
+unfoldable pub withProcess : System → ℕ → Process → System
+withProcess s p x = record { n = s .n; processes = put (s .processes) p x; rows = s .rows }
+
+unfoldable pub rowAt : System → ℕ → Row
+rowAt s q = at (s .rows) q emptyRow
+
+unfoldable pub withRow : System → ℕ → Row → System
+withRow s q r = record { n = s .n; processes = s .processes; rows = put (s .rows) q r }
+
+-- on a row: the channel to process p
+unfoldable pub channelTo : Row → ℕ → Channel
+channelTo r p = at (r .channels) p emptyChannel
+
+unfoldable pub withChannelTo : Row → ℕ → Channel → Row
+withChannelTo r p c = record { channels = put (r .channels) p c }
+
+-- the channel from process q to process p
+unfoldable pub channelAt : System → ℕ → ℕ → Channel
+channelAt s q p = channelTo (rowAt s q) p
+
+unfoldable pub withChannel : System → ℕ → ℕ → Channel → System
+withChannel s q p c = withRow s q (withChannelTo (rowAt s q) p c)
+
+-- one message from q to p: "A message sent to a stopped unit vanishes and needs no room."
+unfoldable pub sent : System → ℕ → ℕ → Message → System
+sent s q p m = pick (processAt s p .crashed) s (withChannel s q p (pushed (channelAt s q p) m))
+
+unfoldable pub sentIfNamed : ℕ → ℕ → Message → ℕ → System → System
+sentIfNamed q v m p s = pick (has v p) (sent s q p m) s
+
+-- one message from q to every process that the view names, in rising order
+unfoldable pub broadcasted : System → ℕ → ℕ → Message → System
+broadcasted s q v m = eachUpTo 8 (sentIfNamed q v m) s
+
+-- process p is not named, or takes a message from q: it has crashed, or the channel has room
+unfoldable pub takesIfNamed : System → ℕ → ℕ → ℕ → Bool
+takesIfNamed s q v p = not (has v p) || (processAt s p .crashed || hasRoom (channelAt s q p))
+
+-- a broadcast finds room
+unfoldable pub roomFor : System → ℕ → ℕ → Bool
+roomFor s q v = allUpTo 8 (takesIfNamed s q v)
+
+-- the number 0 and the next system; or a refusal number and the same system
+abbrev pub done : System → Outcome
+done s = record { refusal = 0; system = s }
+
+abbrev pub refused : ℕ → System → Outcome
+refused k s = record { refusal = k; system = s }

@@ -1,0 +1,3 @@
+-- What a view is, and the tests, loops and lists that every crate's definitions are written with.
+pub mod Logic
+pub mod View
