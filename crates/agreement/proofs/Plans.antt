@@ -24,9 +24,9 @@ use Rattle.system.specs.declared.System.{System}
 use Rattle.system.specs.Process.{entryAt, withEntry, pendingAt, withPending, pendingSlot}
 use Rattle.system.specs.System.{processAt, withProcess}
 use Rattle.sound.specs.Sound.{soundMessage, soundPending}
-use Rattle.step.specs.declared.Plan.{Plan}
-use Rattle.step.specs.Fields.{index, assigned, withNext, withAcks, withHistory, asCrashed}
-use Rattle.step.specs.Plan.{sending, quietly, refusing, reportPlan, committingPlan, messagePlan, receivePlan, recordedPlan}
+use Rattle.plan.specs.declared.Plan.{Plan}
+use Rattle.plan.specs.Fields.{index, assigned, withNext, withAcks, withHistory, asCrashed}
+use Rattle.plan.specs.Plan.{sending, quietly, refusing, reportPlan, committingPlan, messagePlan, receivePlan, recordedPlan}
 use Rattle.agreement.specs.Accepted.{Acceptance, accepted, acceptedFrom}
 use Rattle.agreement.proofs.Acceptances.{Same, still, newest, last-or-before}
 use Rattle.agreement.proofs.Frames.{Numbered, process-same, each-process}

@@ -72,5 +72,5 @@ retry-proposes-view n e os q p old new known-q known-p first present least =
     let head = at-front (waiting (channelAt s q p)) (λ m. soundMessage (s .n) q p m ≡ true) (sound .channel q p (bq .0) (bq .1) (bp .0) (bp .1) .messages) (Retry old new) first in
     let f = retry-facts (s .n) q p old new head in
     run-reached (freshSystem n) [] os (fresh-reached n) .own p .leads
-    (not-empty (processAt s p .proposal) p (sound .process p (bp .0) (bp .1) .own-proposed (λ one. omega (arith, f))))
+    (not-empty (processAt s p .proposal) p (sound .process p (bp .0) (bp .1) .fields .own-proposed (λ one. omega (arith, f))))
     least

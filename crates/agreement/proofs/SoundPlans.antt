@@ -24,9 +24,9 @@ use Rattle.system.specs.declared.System.{System}
 use Rattle.system.specs.Process.{entryAt, withEntry, pendingAt, withPending}
 use Rattle.system.specs.System.{processAt, withProcess, withRow, channelAt, withChannel, broadcasted}
 use Rattle.sound.specs.Sound.{soundProposal, soundMessage, soundPending}
-use Rattle.step.specs.declared.Plan.{Plan}
-use Rattle.step.specs.Fields.{index, assigned, withNext, withHistory}
-use Rattle.step.specs.Plan.{sending, quietly, refusing, reportPlan, committingPlan, messagePlan, receivePlan, recordedPlan}
+use Rattle.plan.specs.declared.Plan.{Plan}
+use Rattle.plan.specs.Fields.{index, assigned, withNext, withHistory}
+use Rattle.plan.specs.Plan.{sending, quietly, refusing, reportPlan, committingPlan, messagePlan, receivePlan, recordedPlan}
 use Rattle.agreement.proofs.Frames.{Shape, Numbered, each-process, shape-process, shape-channel, each-channel, channels-stay}
 use Rattle.agreement.proofs.Messages.{broadcast-keeps, push-long, push-each, pop-each, empty-each}
 use Rattle.agreement.proofs.Plans.{each-pending, pending-keeps-length, each-entry, entries-keep-length}
@@ -239,16 +239,19 @@ module _ (s : System) (g : Good s) (p : ℕ) (low : 1 ≤ p) (high : p ≤ s .n)
       record {
         sound =
             record {
-              next-low = kl;
-              next-high = kh;
-              propout-low = ol;
-              propout-high = oh;
-              view-inside = iv;
-              proposal-inside = iv*;
-              acks-inside = ia;
-              own = own;
-              none-proposed = none;
-              own-proposed = proposed;
+              fields =
+                  record {
+                    next-low = kl;
+                    next-high = kh;
+                    propout-low = ol;
+                    propout-high = oh;
+                    view-inside = iv;
+                    proposal-inside = iv*;
+                    acks-inside = ia;
+                    own = own;
+                    none-proposed = none;
+                    own-proposed = proposed;
+                  };
               entries = now .entries;
               first = now .first;
               recorded = now .recorded;
@@ -271,16 +274,16 @@ module _ (s : System) (g : Good s) (p : ℕ) (low : 1 ≤ p) (high : p ≤ s .n)
       (λ room.
       let up = ltb-true (x .propout .0) 32 room in
       sound-sending s p _ _ _
-      (assigned-fit v (x .next) (index (x .propout .0 + 1)) v 0 (now .next-low) (now .next-high) (omega arith) (omega arith) inside inside (within-none (s .n)) own (λ e. absurd (omega (arith, now .propout-low))) (λ h. own))
-      (λ u l h n. proposal-is-sound (s .n) p u v (x .propout .0 + 1) (record { low = omega (arith, now .propout-low); high = omega arith; inside = inside; sender = own; receiver = n })))
+      (assigned-fit v (x .next) (index (x .propout .0 + 1)) v 0 (now .fields .next-low) (now .fields .next-high) (omega arith) (omega arith) inside inside (within-none (s .n)) own (λ e. absurd (omega (arith, now .fields .propout-low))) (λ h. own))
+      (λ u l h n. proposal-is-sound (s .n) p u v (x .propout .0 + 1) (record { low = omega (arith, now .fields .propout-low); high = omega arith; inside = inside; sender = own; receiver = n })))
       (λ full. sound-refusing s p 6 x (omega arith)))
-      (λ other. sound-quietly s p _ (assigned-fit v (x .next) (x .propout) (x .proposal) (x .acks) (now .next-low) (now .next-high) (now .propout-low) (now .propout-high) inside (now .proposal-inside) (now .acks-inside) own (now .none-proposed) (now .own-proposed))))
+      (λ other. sound-quietly s p _ (assigned-fit v (x .next) (x .propout) (x .proposal) (x .acks) (now .fields .next-low) (now .fields .next-high) (now .fields .propout-low) (now .fields .propout-high) inside (now .fields .proposal-inside) (now .fields .acks-inside) own (now .fields .none-proposed) (now .fields .own-proposed))))
       (λ odd. sound-refusing s p 4 x (omega arith))
 
   -- PropOut and ack may change; v_p, Next and v* stay
   kept-fit : (o a : ℕ) → 1 ≤ o → o ≤ 32 → within (s .n) a ≡ true → (o ≡ 1 → x .proposal ≡ 0) → ((o ≡ 1 → ⊥) → has (x .proposal) p ≡ true) → Fit s p (assigned x (x .view) (x .next) (index o) (x .proposal) a)
   kept-fit o a ol oh ia none proposed =
-      assigned-fit (x .view) (x .next) (index o) (x .proposal) a (now .next-low) (now .next-high) ol oh (now .view-inside) (now .proposal-inside) ia (now .own) none proposed
+      assigned-fit (x .view) (x .next) (index o) (x .proposal) a (now .fields .next-low) (now .fields .next-high) ol oh (now .fields .view-inside) (now .fields .proposal-inside) ia (now .fields .own) none proposed
 
   same-fit : Fit s p x
   same-fit = record { sound = now; pending = g .shape .pending p; entries = g .shape .entries p; crashed = refl }
@@ -291,15 +294,15 @@ module _ (s : System) (g : Good s) (p : ℕ) (low : 1 ≤ p) (high : p ≤ s .n)
       by-pick (SoundPlan s p) (not (eqb (x .proposal) 0) && subset (x .proposal) a) _ _
       (λ whole.
       let some = eqb-false (x .proposal) 0 (not-true _ (and-left (not (eqb (x .proposal) 0)) (subset (x .proposal) a) whole)) in
-      let later : x .propout .0 ≡ 1 → ⊥ = λ e. some (now .none-proposed e) in
+      let later : x .propout .0 ≡ 1 → ⊥ = λ e. some (now .fields .none-proposed e) in
       sound-sending s p _ _ _
-      (kept-fit (x .propout .0) 0 (now .propout-low) (now .propout-high) (within-none (s .n)) (now .none-proposed) (now .own-proposed))
-      (λ u l h n. commit-is-sound (s .n) p u (x .proposal) (x .propout) (record { low = not-one (x .propout .0) (now .propout-low) later; high = now .propout-high; inside = now .proposal-inside; sender = now .own-proposed later; receiver = n })))
-      (λ part. sound-quietly s p _ (kept-fit (x .propout .0) a (now .propout-low) (now .propout-high) inside (now .none-proposed) (now .own-proposed)))
+      (kept-fit (x .propout .0) 0 (now .fields .propout-low) (now .fields .propout-high) (within-none (s .n)) (now .fields .none-proposed) (now .fields .own-proposed))
+      (λ u l h n. commit-is-sound (s .n) p u (x .proposal) (x .propout) (record { low = not-one (x .propout .0) (now .fields .propout-low) later; high = now .fields .propout-high; inside = now .fields .proposal-inside; sender = now .fields .own-proposed later; receiver = n })))
+      (λ part. sound-quietly s p _ (kept-fit (x .propout .0) a (now .fields .propout-low) (now .fields .propout-high) inside (now .fields .none-proposed) (now .fields .own-proposed)))
 
   committing-same : SoundPlan s p (committingPlan x)
   unfolding assigned
-  committing-same = committing-sound (x .acks) (now .acks-inside)
+  committing-same = committing-sound (x .acks) (now .fields .acks-inside)
 
   pending-fit : (q : ℕ) (new : Pending) → Numbered q → soundPending (s .n) q p new ≡ true → Fit s p (withPending x q new)
   unfolding withPending
@@ -307,16 +310,7 @@ module _ (s : System) (g : Good s) (p : ℕ) (low : 1 ≤ p) (high : p ≤ s .n)
       record {
         sound =
             record {
-              next-low = now .next-low;
-              next-high = now .next-high;
-              propout-low = now .propout-low;
-              propout-high = now .propout-high;
-              view-inside = now .view-inside;
-              proposal-inside = now .proposal-inside;
-              acks-inside = now .acks-inside;
-              own = now .own;
-              none-proposed = now .none-proposed;
-              own-proposed = now .own-proposed;
+              fields = now .fields;
               entries = now .entries;
               first = now .first;
               recorded = each-pending x q new from (g .shape .pending p) (λ j y. 1 ≤ j → j ≤ s .n → soundPending (s .n) j p y ≡ true) (λ a b. sound) (λ j k. now .recorded j);
@@ -332,16 +326,7 @@ module _ (s : System) (g : Good s) (p : ℕ) (low : 1 ≤ p) (high : p ≤ s .n)
       record {
         sound =
             record {
-              next-low = now .next-low;
-              next-high = now .next-high;
-              propout-low = now .propout-low;
-              propout-high = now .propout-high;
-              view-inside = now .view-inside;
-              proposal-inside = now .proposal-inside;
-              acks-inside = now .acks-inside;
-              own = now .own;
-              none-proposed = now .none-proposed;
-              own-proposed = now .own-proposed;
+              fields = now .fields;
               entries = each-entry (x .history) i v (omega arith) h (g .shape .entries p) (λ j w. 1 ≤ j → j ≤ 32 → within (s .n) w ≡ true) (λ a b. inside) (λ j k. now .entries j);
               first = each-entry (x .history) i v (omega arith) h (g .shape .entries p) (λ j w. j ≡ 1 → w ≡ 0 → ⊥) (λ e. absurd (omega arith)) (λ j k e. subst (λ (z : ℕ). entryAt (x .history) z ≡ 0 → ⊥) (sym e) (now .first)) 1 refl;
               recorded = now .recorded;
@@ -363,13 +348,13 @@ module _ (s : System) (g : Good s) (p : ℕ) (low : 1 ≤ p) (high : p ≤ s .n)
       (λ room.
       let up = leb-true (new .0) 32 room in
       sound-sending s p _ _ _
-      (kept-fit (new .0) 0 (omega (arith, f)) up (within-none (s .n)) (λ e. absurd (omega (arith, f))) (λ e. now .own-proposed (λ one. omega (arith, f))))
-      (λ u a b n. proposal-is-sound (s .n) p u (x .view) (new .0) (record { low = omega (arith, f); high = up; inside = now .view-inside; sender = now .own; receiver = n })))
+      (kept-fit (new .0) 0 (omega (arith, f)) up (within-none (s .n)) (λ e. absurd (omega (arith, f))) (λ e. now .fields .own-proposed (λ one. omega (arith, f))))
+      (λ u a b n. proposal-is-sound (s .n) p u (x .view) (new .0) (record { low = omega (arith, f); high = up; inside = now .fields .view-inside; sender = now .fields .own; receiver = n })))
       (λ full. sound-refusing s p 6 x (omega arith)))
       (λ ignored. sound-quietly s p x same-fit)
   message-sound q (Acc i) l h sound =
       by-pick (λ (y : Process). SoundPlan s p (committingPlan y)) (eqb (x .propout .0) (i .0)) _ _
-      (λ present. committing-sound (with (x .acks) q) (within-with (s .n) (x .acks) q (now .acks-inside) l h (omega (arith, g .sound .high))))
+      (λ present. committing-sound (with (x .acks) q) (within-with (s .n) (x .acks) q (now .fields .acks-inside) l h (omega (arith, g .sound .high))))
       (λ stale. committing-same)
   message-sound q (Commit v i) l h sound =
       let f = proposal-facts (s .n) q p v (i .0) sound in
@@ -388,16 +373,19 @@ module _ (s : System) (g : Good s) (p : ℕ) (low : 1 ≤ p) (high : p ≤ s .n)
       record {
         sound =
             record {
-              next-low = omega arith;
-              next-high = omega arith;
-              propout-low = now .propout-low;
-              propout-high = now .propout-high;
-              view-inside = now .view-inside;
-              proposal-inside = now .proposal-inside;
-              acks-inside = now .acks-inside;
-              own = now .own;
-              none-proposed = now .none-proposed;
-              own-proposed = now .own-proposed;
+              fields =
+                  record {
+                    next-low = omega arith;
+                    next-high = omega arith;
+                    propout-low = now .fields .propout-low;
+                    propout-high = now .fields .propout-high;
+                    view-inside = now .fields .view-inside;
+                    proposal-inside = now .fields .proposal-inside;
+                    acks-inside = now .fields .acks-inside;
+                    own = now .fields .own;
+                    none-proposed = now .fields .none-proposed;
+                    own-proposed = now .fields .own-proposed;
+                  };
               entries = f .sound .entries;
               first = f .sound .first;
               recorded = f .sound .recorded;
@@ -423,7 +411,7 @@ module _ (s : System) (g : Good s) (p : ℕ) (low : 1 ≤ p) (high : p ≤ s .n)
       by-pick (SoundPlan s p) (ltb (i .0) (x .next .0)) _ _
       (λ late.
       sound-sending s p _ _ _ (pending-fit q Nothing to (nothing-is-sound (s .n) q p))
-      (λ u a b n. retry-is-sound (s .n) p u i (x .next) (f .low) (f .high) (ltb-true (i .0) (x .next .0) late) (now .next-high)))
+      (λ u a b n. retry-is-sound (s .n) p u i (x .next) (f .low) (f .high) (ltb-true (i .0) (x .next .0) late) (now .fields .next-high)))
       (λ free.
       by-pick (SoundPlan s p) (leb (i .0) 32) _ _
       (λ room. accepting-sound q (i .0) to (f .low) (f .high))

@@ -16,11 +16,11 @@ use Rattle.system.specs.declared.Outcome.{Outcome}
 use Rattle.system.specs.Process.{pendingAt}
 use Rattle.system.specs.System.{processAt, withProcess, channelAt, withChannel, broadcasted, roomFor}
 use Rattle.sound.specs.Sound.{soundMessage, soundSystem}
-use Rattle.step.specs.declared.Plan.{Plan}
+use Rattle.plan.specs.declared.Plan.{Plan}
 use Rattle.step.specs.declared.Step.{Step}
 use Rattle.step.specs.declared.Step.the-variants.{Report, Receive, Respond, Crash}
-use Rattle.step.specs.Fields.{asCrashed}
-use Rattle.step.specs.Plan.{receivePlan, respondPlan}
+use Rattle.plan.specs.Fields.{asCrashed}
+use Rattle.plan.specs.Plan.{receivePlan, respondPlan}
 use Rattle.step.specs.Step.{permitted, carriedOut, takenOff, emptiedFrom, stopped, attempted, stepped}
 use Rattle.agreement.proofs.Frames.{Shape, Numbered, each-process, each-process-but, shape-process, shape-channel, channel-same, each-channel, channels-stay}
 use Rattle.agreement.proofs.Messages.{pop-long, empty-long}
@@ -119,16 +119,7 @@ crashed-sound : (n p : ℕ) (x : Process) → SoundProcess n p x → SoundProces
 unfolding asCrashed pendingAt
 crashed-sound n p x f =
     record {
-      next-low = f .next-low;
-      next-high = f .next-high;
-      propout-low = f .propout-low;
-      propout-high = f .propout-high;
-      view-inside = f .view-inside;
-      proposal-inside = f .proposal-inside;
-      acks-inside = f .acks-inside;
-      own = f .own;
-      none-proposed = f .none-proposed;
-      own-proposed = f .own-proposed;
+      fields = f .fields;
       entries = f .entries;
       first = f .first;
       recorded = f .recorded;

@@ -105,17 +105,20 @@ channel-sound n crashed q p c f =
     (each-every (soundMessage n q p) (waiting c) (f .messages))
 
 -- ---- a process
+pub record SoundFields (n p v next propout v* acks : ℕ) : Type 0 where
+  pub next-low : 2 ≤ next
+  pub next-high : next ≤ 33
+  pub propout-low : 1 ≤ propout
+  pub propout-high : propout ≤ 32
+  pub view-inside : within n v ≡ true
+  pub proposal-inside : within n v* ≡ true
+  pub acks-inside : within n acks ≡ true
+  pub own : has v p ≡ true
+  pub none-proposed : propout ≡ 1 → v* ≡ 0
+  pub own-proposed : (propout ≡ 1 → ⊥) → has v* p ≡ true
+
 pub record SoundProcess (n p : ℕ) (x : Process) : Type 0 where
-  pub next-low : 2 ≤ x .next .0
-  pub next-high : x .next .0 ≤ 33
-  pub propout-low : 1 ≤ x .propout .0
-  pub propout-high : x .propout .0 ≤ 32
-  pub view-inside : within n (x .view) ≡ true
-  pub proposal-inside : within n (x .proposal) ≡ true
-  pub acks-inside : within n (x .acks) ≡ true
-  pub own : has (x .view) p ≡ true
-  pub none-proposed : x .propout .0 ≡ 1 → x .proposal ≡ 0
-  pub own-proposed : (x .propout .0 ≡ 1 → ⊥) → has (x .proposal) p ≡ true
+  pub fields : SoundFields n p (x .view) (x .next .0) (x .propout .0) (x .proposal) (x .acks)
   pub entries : (i : ℕ) → 1 ≤ i → i ≤ 32 → within n (entryAt (x .history) i) ≡ true
   pub first : entryAt (x .history) 1 ≡ 0 → ⊥
   pub recorded : (q : ℕ) → 1 ≤ q → q ≤ n → soundPending n q p (pendingAt x q) ≡ true
@@ -164,16 +167,19 @@ process-facts n p x e =
     let e1 = and-left t1 (between 1 32 (x .propout .0)) e2 in
     let r2 = and-right t1 (between 1 32 (x .propout .0)) e2 in
     record {
-      next-low = leb-true 2 (x .next .0) (and-left (leb 2 (x .next .0)) (leb (x .next .0) 33) e1);
-      next-high = leb-true (x .next .0) 33 (and-right (leb 2 (x .next .0)) (leb (x .next .0) 33) e1);
-      propout-low = leb-true 1 (x .propout .0) (and-left (leb 1 (x .propout .0)) (leb (x .propout .0) 32) r2);
-      propout-high = leb-true (x .propout .0) 32 (and-right (leb 1 (x .propout .0)) (leb (x .propout .0) 32) r2);
-      view-inside = and-right t2 (within n (x .view)) e3;
-      proposal-inside = and-right t3 (within n (x .proposal)) e4;
-      acks-inside = and-right t4 (within n (x .acks)) e5;
-      own = and-right t5 (has (x .view) p) e6;
-      none-proposed = proposed-none x p (and-right t6 (proposed x p) e7);
-      own-proposed = proposed-own x p (and-right t6 (proposed x p) e7);
+      fields =
+          record {
+            next-low = leb-true 2 (x .next .0) (and-left (leb 2 (x .next .0)) (leb (x .next .0) 33) e1);
+            next-high = leb-true (x .next .0) 33 (and-right (leb 2 (x .next .0)) (leb (x .next .0) 33) e1);
+            propout-low = leb-true 1 (x .propout .0) (and-left (leb 1 (x .propout .0)) (leb (x .propout .0) 32) r2);
+            propout-high = leb-true (x .propout .0) 32 (and-right (leb 1 (x .propout .0)) (leb (x .propout .0) 32) r2);
+            view-inside = and-right t2 (within n (x .view)) e3;
+            proposal-inside = and-right t3 (within n (x .proposal)) e4;
+            acks-inside = and-right t4 (within n (x .acks)) e5;
+            own = and-right t5 (has (x .view) p) e6;
+            none-proposed = proposed-none x p (and-right t6 (proposed x p) e7);
+            own-proposed = proposed-own x p (and-right t6 (proposed x p) e7);
+          };
       entries = all-elim 32 (λ i. within n (entryAt (x .history) i)) (and-left inside one eh);
       first = eqb-false (entryAt (x .history) 1) 0 (not-true _ (and-right inside one eh));
       recorded = all-elim n (λ q. soundPending n q p (pendingAt x q)) (and-right (t7 && (inside && one)) pend e);
@@ -190,13 +196,13 @@ process-sound n p x f =
     (and-intro
     (and-intro
     (and-intro
-    (and-intro (le-leb 2 (x .next .0) (f .next-low)) (le-leb (x .next .0) 33 (f .next-high)))
-    (and-intro (le-leb 1 (x .propout .0) (f .propout-low)) (le-leb (x .propout .0) 32 (f .propout-high))))
-    (f .view-inside))
-    (f .proposal-inside))
-    (f .acks-inside))
-    (f .own))
-    (proposed-test x p (f .none-proposed) (f .own-proposed)))
+    (and-intro (le-leb 2 (x .next .0) (f .fields .next-low)) (le-leb (x .next .0) 33 (f .fields .next-high)))
+    (and-intro (le-leb 1 (x .propout .0) (f .fields .propout-low)) (le-leb (x .propout .0) 32 (f .fields .propout-high))))
+    (f .fields .view-inside))
+    (f .fields .proposal-inside))
+    (f .fields .acks-inside))
+    (f .fields .own))
+    (proposed-test x p (f .fields .none-proposed) (f .fields .own-proposed)))
     (and-intro (all-intro 32 (λ i. within n (entryAt (x .history) i)) (f .entries)) (ap not (ne-eqb (entryAt (x .history) 1) 0 (f .first)))))
     (all-intro n (λ q. soundPending n q p (pendingAt x q)) (f .recorded))
 

@@ -15,11 +15,11 @@ use Rattle.system.specs.declared.Outcome.{Outcome}
 use Rattle.system.specs.Process.{pendingAt}
 use Rattle.system.specs.System.{processAt, withProcess, channelAt, broadcasted, roomFor, done, refused}
 use Rattle.sound.specs.Sound.{soundSystem}
-use Rattle.step.specs.declared.Plan.{Plan}
+use Rattle.plan.specs.declared.Plan.{Plan}
 use Rattle.step.specs.declared.Step.{Step}
 use Rattle.step.specs.declared.Step.the-variants.{Report, Receive, Respond, Crash}
-use Rattle.step.specs.Fields.{asCrashed}
-use Rattle.step.specs.Plan.{receivePlan, respondPlan}
+use Rattle.plan.specs.Fields.{asCrashed}
+use Rattle.plan.specs.Plan.{receivePlan, respondPlan}
 use Rattle.step.specs.Step.{permitted, carriedOut, takenOff, stopped, attempted, stepped, ran}
 use Rattle.agreement.specs.Accepted.{Acceptance, acceptedFrom, acceptedBy, acceptedIn}
 use Rattle.agreement.proofs.Frames.{Numbered}

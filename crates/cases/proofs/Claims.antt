@@ -9,8 +9,8 @@ use Rattle.system.specs.Process.{entryAt, withEntry, pendingAt, withPending}
 use Rattle.system.specs.System.{noProcess, emptyRow, processAt, withProcess, rowAt, withRow, channelTo, withChannelTo, channelAt, withChannel, sent, sentIfNamed, broadcasted, takesIfNamed, roomFor}
 use Rattle.system.specs.Fresh.{freshProcess, freshSystem, freshOf}
 use Rattle.sound.specs.Sound.{every, soundProposal, soundMessage, soundPending, soundChannel, soundHistory, soundFields, soundProcess, soundChannelAt, soundAt, soundSystem}
-use Rattle.step.specs.Fields.{assigned, withHistory, asCrashed}
-use Rattle.step.specs.Plan.{reportPlan, committingPlan, messagePlan, receivePlan, recordedPlan, respondPlan}
+use Rattle.plan.specs.Fields.{assigned, withHistory, asCrashed}
+use Rattle.plan.specs.Plan.{reportPlan, committingPlan, messagePlan, receivePlan, recordedPlan, respondPlan}
 use Rattle.step.specs.Step.{permitted, carriedOut, takenOff, emptiedFrom, stopped, attempted, stepped}
 use Rattle.system.specs.declared.Process.{Process}
 use Rattle.step.specs.Step.{ran}

@@ -15,7 +15,7 @@ use Rattle.system.specs.Process.{pendingSlot}
 use Rattle.system.specs.System.{emptyRow, processAt, withProcess, withChannel, done}
 use Rattle.system.specs.Fresh.{freshProcess, freshOf, freshSystem}
 use Rattle.step.specs.declared.Step.{Step}
-use Rattle.step.specs.Fields.{index, assigned}
+use Rattle.plan.specs.Fields.{index, assigned}
 use Rattle.cases.specs.Case.{Case, Entry, Unit, Line, r, t, a, s}
 
 infix 80 _is_

@@ -1,4 +1,2 @@
--- The four steps: Figure 3, guarded command by guarded command, and document 01's refusal table.
-pub mod Fields
-pub mod Plan
+-- One step of any kind: document 01's refusal table around the plans of Figure 3.
 pub mod Step

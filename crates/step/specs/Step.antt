@@ -1,6 +1,6 @@
 -- One step of any kind on any system, and a list of steps.
 use Prim.Native.Nat.{ℕ}
-use mathlib.Core.Bool.{_&&_}
+use mathlib.Core.Bool.{Bool, _&&_}
 use mathlib.Core.List.{List, [], _∷_}
 use lib.Dec.{eqb}
 use Rattle.view.specs.Logic.{pick, eachUpTo, isOneOf}
@@ -9,11 +9,11 @@ use Rattle.system.specs.declared.System.{System}
 use Rattle.system.specs.declared.Outcome.{Outcome}
 use Rattle.system.specs.System.{processAt, withProcess, channelAt, withChannel, broadcasted, roomFor, done, refused}
 use Rattle.sound.specs.Sound.{soundSystem}
-use Rattle.step.specs.declared.Plan.{Plan}
+use Rattle.plan.specs.declared.Plan.{Plan}
 use Rattle.step.specs.declared.Step.{Step}
 use Rattle.step.specs.declared.Step.the-variants.{Report, Receive, Respond, Crash}
-use Rattle.step.specs.Fields.{asCrashed}
-use Rattle.step.specs.Plan.{reportPlan, receivePlan, respondPlan}
+use Rattle.plan.specs.Fields.{asCrashed}
+use Rattle.plan.specs.Plan.{reportPlan, receivePlan, respondPlan}
 
 -- Refusal 2, "a unit number in the step is not 1 to n"; refusal 3, "the unit that would act has stopped": p acts, q is the other
 -- process that the step names. Otherwise the outcome o.

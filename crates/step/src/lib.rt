@@ -1,21 +1,30 @@
 // The four steps of Figure 3. Document 01 calls them report, take, answer and stop.
-use channel::Message;
+ghost use mathlib.Core.Bool.{_&&_};
+ghost use mathlib.Core.Path.{_≡_};
+ghost use Rattle.channel.specs.Channel.{emptyChannel};
+ghost use Rattle.system.specs.System.{withChannelTo};
+ghost use Rattle.view.specs.Logic.{pick, isOneOf};
+ghost use Rattle.plan.specs.Fields.{asCrashed};
+ghost use Rattle.step.specs.Step.{carriedOut, stopped, attempted, stepped};
+use plan::CHANNEL_FULL;
+use plan::CRASHED;
+use plan::Plan;
+use plan::UNSOUND;
+use system::Outcome;
 use system::Process;
-use view::GroupIndex;
+use system::Row;
+use system::STRANGER;
+use system::System;
+use system::broadcast;
+use system::channel_at;
+use system::process_at;
+use system::room_for;
+use system::with_channel;
+use system::with_process;
 use view::ProcessId;
-
-// Document 01's refusal table. Refusal 2, "stranger", is system::STRANGER.
-pub const UNSOUND: u8 = 1;
-
-pub const CRASHED: u8 = 3;
-
-pub const ODD_VIEW: u8 = 4;
-
-pub const NOTHING_THERE: u8 = 5;
-
-pub const HISTORY_FULL: u8 = 6;
-
-pub const CHANNEL_FULL: u8 = 7;
+use view::and;
+use view::is_one_of;
+use view::place;
 
 // One step of any kind.
 pub enum Step {
@@ -29,11 +38,177 @@ pub enum Step {
     Crash(ProcessId),
 }
 
-// What a step does once it is permitted: it is refused with this number; or, at 0, the acting
-// process becomes this one and sends the message to every process of the view.
-pub struct Plan {
-    pub refusal: u8,
-    pub process: Process,
-    pub addressees: u8,
-    pub message: Message,
+// Refusals 2 and 3, or 0: of n processes p acts, and q is the other one that the step names.
+fn guard(n: u8, p: ProcessId, q: ProcessId, crashed: bool) -> u8
+    ensures { λ r. ⌜ r ≡ pick (isOneOf n (p .0) && isOneOf n (q .0)) (pick crashed 3 0) 2 ⌝ }
+{
+    if and(is_one_of(n, p), is_one_of(n, q)) {
+        if crashed { CRASHED } else { 0 }
+    } else {
+        STRANGER
+    }
+}
+
+// The plan of process p is carried out in t. A refusal returns s, the system handed over.
+fn carry_out(s: System, t: System, p: ProcessId, a: Plan) -> Outcome
+    ensures { λ r. ⌜ r ≡ carriedOut s t (p .0) a ⌝ }
+{
+    let to = a.addressees;
+    if a.refusal == 0 {
+        if room_for(t, p, to) {
+            let x = a.process;
+            let m = a.message;
+            let system = broadcast(with_process(t, p, x), p, to, m);
+            Outcome { refusal: 0, system }
+        } else {
+            Outcome {
+                refusal: CHANNEL_FULL,
+                system: s,
+            }
+        }
+    } else {
+        Outcome {
+            refusal: a.refusal,
+            system: s,
+        }
+    }
+}
+
+// A row whose channel to process p is emptied.
+fn emptied(r: Row, p: ProcessId) -> Row
+    ensures { λ t. ⌜ t ≡ withChannelTo r (p .0) emptyChannel ⌝ }
+{
+    let at = place(8, p.0);
+    let mut next = r;
+    if at < 8 {
+        next.channels[at] = channel::empty();
+    }
+    next
+}
+
+fn as_crashed(x: Process) -> Process
+    ensures { λ r. ⌜ r ≡ asCrashed x ⌝ }
+{
+    let mut next = x;
+    next.crashed = true;
+    next
+}
+
+// Process p has crashed, and every channel towards it is emptied.
+fn stop(s: System, p: ProcessId) -> System
+    ensures { λ r. ⌜ r ≡ stopped s (p .0) ⌝ }
+{
+    let mut next = with_process(s, p, as_crashed(process_at(s, p)));
+    let mut i: usize = 0;
+    while i < 8 {
+        let r = next.rows[i];
+        next.rows[i] = emptied(r, p);
+        i += 1;
+    }
+    next
+}
+
+fn attempt_report(s: System, p: ProcessId, view: u8) -> Outcome
+    ensures { λ r. ⌜ r ≡ attempted s (Step.Report p view) ⌝ }
+{
+    let x = process_at(s, p);
+    let refusal = guard(s.n, p, p, x.crashed);
+    if refusal == 0 {
+        carry_out(s, s, p, plan::report_plan(s.n, p, view, x))
+    } else {
+        Outcome { refusal, system: s }
+    }
+}
+
+fn attempt_receive(s: System, q: ProcessId, p: ProcessId) -> Outcome
+    ensures { λ r. ⌜ r ≡ attempted s (Step.Receive q p) ⌝ }
+{
+    let x = process_at(s, p);
+    let refusal = guard(s.n, p, q, x.crashed);
+    if refusal == 0 {
+        let c = channel_at(s, q, p);
+        let t = with_channel(s, q, p, channel::pop(c));
+        carry_out(s, t, p, plan::receive_plan(q, p, x, channel::first(c)))
+    } else {
+        Outcome { refusal, system: s }
+    }
+}
+
+fn attempt_respond(s: System, p: ProcessId, q: ProcessId) -> Outcome
+    ensures { λ r. ⌜ r ≡ attempted s (Step.Respond p q) ⌝ }
+{
+    let x = process_at(s, p);
+    let refusal = guard(s.n, p, q, x.crashed);
+    if refusal == 0 {
+        carry_out(s, s, p, plan::respond_plan(q, x))
+    } else {
+        Outcome { refusal, system: s }
+    }
+}
+
+fn attempt_crash(s: System, p: ProcessId) -> Outcome
+    ensures { λ r. ⌜ r ≡ attempted s (Step.Crash p) ⌝ }
+{
+    let x = process_at(s, p);
+    let refusal = guard(s.n, p, p, x.crashed);
+    if refusal == 0 {
+        let system = stop(s, p);
+        Outcome { refusal: 0, system }
+    } else {
+        Outcome { refusal, system: s }
+    }
+}
+
+// The step, on a system taken to be sound.
+pub fn attempt(s: System, o: Step) -> Outcome
+    ensures { λ r. ⌜ r ≡ attempted s o ⌝ }
+{
+    match o {
+        Step::Report(p, view) => attempt_report(s, p, view),
+        Step::Receive(q, p) => attempt_receive(s, q, p),
+        Step::Respond(p, q) => attempt_respond(s, p, q),
+        Step::Crash(p) => attempt_crash(s, p),
+    }
+}
+
+// One step of any kind.
+pub fn perform(s: System, o: Step) -> Outcome
+    ensures { λ r. ⌜ r ≡ stepped s o ⌝ }
+{
+    if sound::sound(s) {
+        attempt(s, o)
+    } else {
+        Outcome {
+            refusal: UNSOUND,
+            system: s,
+        }
+    }
+}
+
+// Process p is told its view.
+pub fn report(s: System, p: ProcessId, view: u8) -> Outcome
+    ensures { λ r. ⌜ r ≡ stepped s (Step.Report p view) ⌝ }
+{
+    perform(s, Step::Report(p, view))
+}
+
+// Process p takes the oldest message from process q.
+pub fn receive(s: System, q: ProcessId, p: ProcessId) -> Outcome
+    ensures { λ r. ⌜ r ≡ stepped s (Step.Receive q p) ⌝ }
+{
+    perform(s, Step::Receive(q, p))
+}
+
+// Process p answers the proposal that it recorded from process q.
+pub fn respond(s: System, p: ProcessId, q: ProcessId) -> Outcome
+    ensures { λ r. ⌜ r ≡ stepped s (Step.Respond p q) ⌝ }
+{
+    perform(s, Step::Respond(p, q))
+}
+
+// Process p stops for good.
+pub fn crash(s: System, p: ProcessId) -> Outcome
+    ensures { λ r. ⌜ r ≡ stepped s (Step.Crash p) ⌝ }
+{
+    perform(s, Step::Crash(p))
 }

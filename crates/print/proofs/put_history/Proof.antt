@@ -1,0 +1,60 @@
+-- `print::put_history`: after i turns the entries up to index i are typed.
+use borrow.Author.Needs.{needs}
+use Prim.Native.Nat.{_≤_, _-_}
+use mathlib.Core.Path.{_≡_}
+use native.Mathlib.Omega.{arith}
+use Rattle.print.specs.Text.{textUpTo}
+use Rattle.print.specs.Page.{page, typed}
+use Rattle.print.specs.Print.{entryOf, historyText}
+use Rattle.print.proofs.Laws.{nothing-typed, text-again, same-room}
+use Rattle.print.proofs.put_history.Statement.{statement}
+use Rattle.print.proofs.put_history.Tie as tie
+
+abbrev Inv-loop : tie.InvT-loop
+Inv-loop out₀ at h next₀ i₀ out next i = (i ≤ 32) × (page out next ≡ typed (page out₀ at) (textUpTo i (entryOf h)))
+
+abbrev μ-loop : tie.MeasureT-loop
+μ-loop out₀ at h next₀ i₀ out next i = 32 - i
+
+loop-holds : tie.Need-loop-holds Inv-loop μ-loop
+unfolding textUpTo
+loop-holds c = (omega arith, nothing-typed _)
+
+add-i : tie.Need-add-i Inv-loop μ-loop
+add-i c = search needs
+
+entry-at-requires : tie.Need-entry-at-requires Inv-loop μ-loop
+entry-at-requires c κs = search needs
+
+put-entry-requires : tie.Need-put-entry-requires Inv-loop μ-loop
+put-entry-requires c κs = search needs
+
+loop-less : tie.Need-loop-less Inv-loop μ-loop
+loop-less c = omega arith
+
+loop-again : tie.Need-loop-again Inv-loop μ-loop
+unfolding entryOf
+loop-again c = (omega arith, text-again _ _ _ _ (entryOf (c .before .before .before .before .before .before .before .before .args .h)) (c .before .before .before .before .before .before .loop .inv .1) (rw (← c .before .before .before .before .entry-at .ensures) (c .before .before .put-entry .ensures)))
+
+same-length : tie.Need-same-length Inv-loop μ-loop
+same-length c = same-room _ _ _ _ _ (c .before .loop .inv .1)
+
+returns : tie.Need-returns Inv-loop μ-loop
+unfolding historyText
+returns c = let end : c .before .loop .i ≡ 32 = omega arith in
+    rw end at (c .before .loop .inv .1)
+
+pub put-history-spec : {M : Type 1} → statement M
+put-history-spec =
+    tie.close
+    (tie.spec
+    Inv-loop
+    μ-loop
+    loop-holds
+    add-i
+    entry-at-requires
+    put-entry-requires
+    loop-less
+    loop-again
+    same-length
+    returns)

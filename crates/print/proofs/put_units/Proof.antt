@@ -1,0 +1,81 @@
+-- `print::put_units`: after i turns the lines of processes 1 to i are typed.
+use borrow.Author.Needs.{needs}
+use Prim.Native.Nat.{_≤_, _-_}
+use mathlib.Core.Path.{_≡_}
+use native.Mathlib.Omega.{arith}
+use lib.ListN.{length}
+use Rattle.view.proofs.Laws.{long}
+use Rattle.print.specs.Text.{textUpTo}
+use Rattle.print.specs.Page.{page, typed}
+use Rattle.print.specs.Print.{unitOf, unitLines}
+use Rattle.print.proofs.Laws.{nothing-typed, unit-again, same-room}
+use Rattle.print.proofs.put_units.Statement.{statement}
+use Rattle.print.proofs.put_units.Tie as tie
+
+abbrev Inv-loop : tie.InvT-loop
+Inv-loop out₀ at s n next₀ i₀ out next i = (i ≤ n)
+    × (n ≤ 8)
+    × (length (s .processes) ≡ 8)
+    × (page out next ≡ typed (page out₀ at) (textUpTo i (unitOf s)))
+
+abbrev μ-loop : tie.MeasureT-loop
+μ-loop out₀ at s n next₀ i₀ out next i = n - i
+
+lesser-requires : tie.Need-lesser-requires Inv-loop μ-loop
+lesser-requires c κs = search needs
+
+loop-holds : tie.Need-loop-holds Inv-loop μ-loop
+unfolding textUpTo
+loop-holds c = (omega arith, omega arith, (search long), nothing-typed _)
+
+cast-k : tie.Need-cast-k Inv-loop μ-loop
+cast-k c = search needs
+
+mul-p : tie.Need-mul-p Inv-loop μ-loop
+mul-p c = search needs
+
+element-copy-out-p : tie.Need-element-copy-out-p Inv-loop μ-loop
+element-copy-out-p c = search needs
+
+add-i : tie.Need-add-i Inv-loop μ-loop
+add-i c = search needs
+
+put-unit-requires : tie.Need-put-unit-requires Inv-loop μ-loop
+put-unit-requires c κs = search needs
+
+loop-less : tie.Need-loop-less Inv-loop μ-loop
+loop-less c = omega arith
+
+loop-again : tie.Need-loop-again Inv-loop μ-loop
+loop-again c = let l = c .before .before .before .before .before .before .loop .inv in (
+  omega arith,
+  l .1,
+  l .2,
+  unit-again _ _ _ _ (c .before .before .before .before .before .before .before .before .before .args .t3) _ (omega arith) (l .3) (c .before .before .put-unit .ensures),
+)
+
+same-length : tie.Need-same-length Inv-loop μ-loop
+same-length c = same-room _ _ _ _ _ (c .before .loop .inv .3)
+
+returns : tie.Need-returns Inv-loop μ-loop
+unfolding unitLines
+returns c = let end : c .before .loop .i ≡ c .before .before .lesser .result = omega arith in
+    rw (end, c .before .before .lesser .ensures) at (c .before .loop .inv .3)
+
+pub put-units-spec : {M : Type 1} → statement M
+put-units-spec =
+    tie.close
+    (tie.spec
+    Inv-loop
+    μ-loop
+    lesser-requires
+    loop-holds
+    cast-k
+    mul-p
+    element-copy-out-p
+    add-i
+    put-unit-requires
+    loop-less
+    loop-again
+    same-length
+    returns)

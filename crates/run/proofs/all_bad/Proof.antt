@@ -1,0 +1,86 @@
+-- `run::all_bad`: what is on the page, then the rest of the lines, is the whole.
+use mathlib.Core.Path.{refl, sym, _∙_}
+use native.Mathlib.Omega.{arith}
+use Rattle.sheet.proofs.Laws.{Cut, line-found, end-found}
+use Rattle.run.proofs.Laws.{bad-again, bad-end}
+use Prim.Native.Nat.{_+_, _-_, _≤_}
+use mathlib.Core.Path.{_≡_}
+use lib.ListN.{length, drop}
+use Rattle.print.specs.Page.{page, typed}
+use Rattle.sheet.specs.Lines.{linesOf}
+use Rattle.run.specs.Output.{badFrom}
+use borrow.Author.Needs.{needs}
+use Rattle.run.proofs.all_bad.Statement.{statement}
+use Rattle.run.proofs.all_bad.Tie as tie
+
+abbrev Inv-loop : tie.InvT-loop
+Inv-loop sheet from out₀ at₀ line₀ end₀ out at line end =
+    (length sheet ≤ 60000)
+    × (line ≤ at + 1)
+    × (typed (page out₀ 0) (badFrom 1 (linesOf (drop from sheet))) ≡ typed (page out end) (badFrom line (linesOf (drop at sheet))))
+    × (length out ≡ length out₀)
+
+abbrev μ-loop : tie.MeasureT-loop
+μ-loop sheet from out₀ at₀ line₀ end₀ out at line end = length sheet + 1 - at
+
+loop-holds : tie.Need-loop-holds Inv-loop μ-loop
+loop-holds c = (c .before .before .pre, omega arith, refl, refl)
+
+read-line-requires : tie.Need-read-line-requires Inv-loop μ-loop
+read-line-requires c κs = search needs
+
+enum-told : tie.Need-enum-told Inv-loop μ-loop
+enum-told c = search needs
+
+same-length : tie.Need-same-length Inv-loop μ-loop
+same-length c = c .before .before .before .loop .inv .3
+
+returns : tie.Need-returns Inv-loop μ-loop
+returns c =
+    let l = c .before .before .before .loop in
+    bad-end _ _ (c .before .before .before .before .before .before .args .sheet .now) (l .at) _ (end-found _ _ (sym (c .before .before .read-line .ensures) ∙ c .enum-told .given .1)) (l .inv .2)
+
+enum-known-start : tie.Need-enum-known-start Inv-loop μ-loop
+enum-known-start c = search needs
+
+-- the line that was found
+cut : (c : tie.After-known-told Inv-loop μ-loop) → Cut (c .before .before .before .before .before .before .before .args .sheet .now) (c .before .before .before .before .loop .at) (c .before .start .given .0 .0) (c .before .start .given .0 .1 .0) (c .before .start .given .0 .1 .1 .0)
+cut c = line-found _ _ _ _ _ (sym (c .before .before .before .read-line .ensures) ∙ c .before .start .given .1)
+
+put-numbered-requires : tie.Need-put-numbered-requires Inv-loop μ-loop
+put-numbered-requires c κs = search needs
+
+add-line : tie.Need-add-line Inv-loop μ-loop
+add-line c =
+    let i = c .before .before .before .before .before .before .before .before .loop .inv in
+    omega (arith, i .0, i .1, cut (c .before .before .before .before) .onward, cut (c .before .before .before .before) .last)
+
+loop-less : tie.Need-loop-less Inv-loop μ-loop
+loop-less c = omega (arith, cut (c .before .before .before .before) .onward, cut (c .before .before .before .before) .last)
+
+loop-again : tie.Need-loop-again Inv-loop μ-loop
+loop-again c =
+    let l = c .before .before .before .before .before .before .before .before .loop in
+    let k = cut (c .before .before .before .before) in (
+      l .inv .0,
+      omega (arith, l .inv .1, k .onward),
+      bad-again _ _ _ _ _ _ _ _ _ k (l .inv .2) (c .before .before .put-numbered .ensures),
+      c .before .before .put-numbered .kept .0 ∙ l .inv .3,
+    )
+
+pub all-bad-spec : {M : Type 1} → statement M
+all-bad-spec =
+    tie.close
+    (tie.spec
+    Inv-loop
+    μ-loop
+    loop-holds
+    read-line-requires
+    enum-told
+    same-length
+    returns
+    enum-known-start
+    put-numbered-requires
+    add-line
+    loop-less
+    loop-again)

@@ -1,0 +1,108 @@
+-- `run::run_sheet`: by how the sheet begins.
+use mathlib.Core.Path.{sym, _∙_, ap}
+use Rattle.print.specs.Text.{bytes}
+use Rattle.print.specs.Page.{typed}
+use Rattle.sheet.proofs.Laws.{Cut, line-found, end-found}
+use Rattle.run.proofs.Laws.{output-long, output-none, output-started, output-bad, started-kept}
+use borrow.Author.Needs.{needs}
+use Rattle.run.proofs.run_sheet.Statement.{statement}
+use Rattle.run.proofs.run_sheet.Tie as tie
+
+slice-aggregate-put-text : tie.Need-slice-aggregate-put-text
+slice-aggregate-put-text c = search needs
+
+put-text-requires : tie.Need-put-text-requires
+put-text-requires c κs = search needs
+
+same-length : tie.Need-same-length
+same-length c = search needs
+
+returns : tie.Need-returns
+unfolding bytes
+returns c = c .before .before .put-text .ensures ∙ ap (typed _) (sym (output-long _ (c .before .before .before .before .before .if1 .taken)))
+
+read-line-requires : tie.Need-read-line-requires
+read-line-requires c κs = search needs
+
+enum-told : tie.Need-enum-told
+enum-told c = search needs
+
+enum-known-start : tie.Need-enum-known-start
+enum-known-start c = search needs
+
+-- the first line
+cut : (c : tie.After-known-told) → Cut (c .before .before .before .before .before .before .before .args .sheet .now) 0 (c .before .start .given .0 .0) (c .before .start .given .0 .1 .0) (c .before .start .given .0 .1 .1 .0)
+cut c = line-found _ _ _ _ _ (sym (c .before .before .before .read-line .ensures) ∙ c .before .start .given .1)
+
+sub-parse : tie.Need-sub-parse
+sub-parse c = cut c .ordered
+
+part-parse-start : tie.Need-part-parse-start
+part-parse-start c = cut c .ordered
+
+part-parse-end : tie.Need-part-parse-end
+part-parse-end c = cut c .within
+
+parse-requires : tie.Need-parse-requires
+parse-requires c κs = search needs
+
+size-in-requires : tie.Need-size-in-requires
+size-in-requires c κs = search needs
+
+fresh-requires : tie.Need-fresh-requires
+fresh-requires c κs = search needs
+
+answers-requires : tie.Need-answers-requires
+answers-requires c κs = (started-kept _ _ (c .before .before .before .before .fresh .ensures) (c .before .before .if2 .taken), c .before .before .before .before .before .before .before .before .before .before .before .before .if1 .left)
+
+all-bad-requires : tie.Need-all-bad-requires
+all-bad-requires c κs = search needs
+
+returns-2 : tie.Need-returns-2
+unfolding typed
+returns-2 c = ap (typed _) (sym (output-none _ (c .before .before .before .if1 .left) (end-found _ _ (sym (c .before .before .read-line .ensures) ∙ c .enum-told .given .1))))
+
+same-length-2 : tie.Need-same-length-2
+same-length-2 c = search needs
+
+returns-3 : tie.Need-returns-3
+returns-3 c =
+    c .before .before .answers .ensures
+    ∙ ap (typed _)
+    (sym
+    (output-started _ _ _ _ _ _ _ (c .before .before .before .before .before .before .before .before .before .before .before .before .before .before .before .if1 .left) (cut (c .before .before .before .before .before .before .before .before .before .before .before)) (c .before .before .before .before .before .before .before .before .before .parse .ensures) (c .before .before .before .before .before .before .before .before .size-in .ensures) (c .before .before .before .before .before .before .before .fresh .ensures) (c .before .before .before .before .before .if2 .taken)))
+
+same-length-3 : tie.Need-same-length-3
+same-length-3 c = search needs
+
+returns-4 : tie.Need-returns-4
+returns-4 c =
+    c .before .before .all-bad .ensures
+    ∙ ap (typed _)
+    (sym
+    (output-bad _ _ _ _ _ _ _ (c .before .before .before .before .before .before .before .before .before .before .before .before .before .before .if1 .left) (cut (c .before .before .before .before .before .before .before .before .before .before)) (c .before .before .before .before .before .before .before .before .parse .ensures) (c .before .before .before .before .before .before .before .size-in .ensures) (c .before .before .before .before .before .before .fresh .ensures) (c .before .before .before .before .if2 .left)))
+
+pub run-sheet-spec : {M : Type 1} → statement M
+run-sheet-spec =
+    tie.close
+    (tie.spec
+    slice-aggregate-put-text
+    put-text-requires
+    same-length
+    returns
+    read-line-requires
+    enum-told
+    enum-known-start
+    sub-parse
+    part-parse-start
+    part-parse-end
+    parse-requires
+    size-in-requires
+    fresh-requires
+    answers-requires
+    all-bad-requires
+    returns-2
+    same-length-2
+    returns-3
+    same-length-3
+    returns-4)

@@ -1,0 +1,4 @@
+-- The trainee's sheet of document 01: its lines, and what each says.
+pub mod Lines
+pub mod Parse
+pub mod Examples
