@@ -4,6 +4,7 @@ pub mod Feed
 pub mod Frames
 pub mod Invariant
 pub mod Messages
+pub mod Outcomes
 pub mod Pages
 pub mod Plans
 pub mod Reachable

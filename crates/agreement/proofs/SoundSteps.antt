@@ -194,7 +194,7 @@ attempted-good s (Respond p q) g =
     (g .sound .process (p .0) (bp .0) (bp .1) .recorded (q .0) (bq .0) (bq .1))))
 attempted-good s (Crash p) g = permitted-good s (p .0) (p .0) _ g (λ known also live. stopping-good s g (p .0) known)
 
-pub record Kept (s : System) : Type 0 where
+pub record Valid (s : System) : Type 0 where
   pub shape : Shape s
   pub sound : soundSystem s ≡ true
 
@@ -204,8 +204,8 @@ unfolding stepped pick
 sound-stepped s o e = rw e
 
 -- "a step on a sound system gives a sound system", refused ones too
-pub step-sound : (s : System) (o : Step) → Kept s → Kept (stepped s o .system)
+pub step-sound : (s : System) (o : Step) → Valid s → Valid (stepped s o .system)
 step-sound s o k =
-    subst (λ (a : Outcome). Kept (a .system)) (sym (sound-stepped s o (k .sound)))
+    subst (λ (a : Outcome). Valid (a .system)) (sym (sound-stepped s o (k .sound)))
     (let g = attempted-good s o (record { shape = k .shape; sound = sound-facts s (k .sound) }) in
     record { shape = g .shape; sound = facts-sound (attempted s o .system) (g .sound) })

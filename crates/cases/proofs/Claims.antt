@@ -1,4 +1,4 @@
--- The worked sheets K1 to K9 come out as document 01 says, by computation.
+-- The worked sheets K1 to K9 and the single steps come out as document 01 says, by computation.
 use mathlib.Core.Path.{_≡_, refl}
 use mathlib.Core.Bool.{true}
 use mathlib.Core.List.{map}
@@ -14,21 +14,33 @@ use Rattle.plan.specs.Plan.{reportPlan, committingPlan, messagePlan, receivePla
 use Rattle.step.specs.Step.{permitted, carriedOut, takenOff, emptiedFrom, stopped, attempted, stepped}
 use Rattle.system.specs.declared.Process.{Process}
 use Rattle.step.specs.Step.{ran}
+use Rattle.step.specs.declared.Step.{Step}
+use Rattle.system.specs.System.{refused}
 use Rattle.agreement.specs.Accepted.{acceptedFrom, acceptedBy, acceptedIn, accepted}
 use Rattle.agreement.specs.Book.{entryOf, bookEntry, opened, apart, apartFrom, admits, writtenIn, madeIn, fed, fedAll, noneRefused}
 use Rattle.agreement.specs.Demand.{start}
 use Rattle.cases.specs.Rule.{acceptance, agreement, k2-accepted, k2-agreements, k2-book, at-two, at-three, twice-accepted, shared, trials, isMade, shouldBeMade}
 use Rattle.cases.specs.Case.{computed, expected, resultOf, lineOf, unitsTo, entriesTo, ranFrom, logged}
 use Rattle.cases.specs.Sheets.{cases, holding, alone, k1-ends, k1, k2, k3, k4, k4-full, k5-stays, k5, k6, k7, k8, k9}
+use Rattle.cases.specs.Points.{points, did, said, variables, carrying, recorded, written, crashed}
 
 -- what the claims are computed with: a claim that unfolds this one unfolds all that its line names
 definitions : Unit {0}
-unfolding pick allUpTo eachUpTo at put has within subset with everyone firstFrom leastOf emptyChannel waiting pushed popped entryAt withEntry pendingAt withPending noProcess emptyRow processAt withProcess rowAt withRow channelTo withChannelTo channelAt withChannel sent sentIfNamed broadcasted takesIfNamed roomFor freshProcess freshSystem freshOf every soundProposal soundMessage soundPending soundChannel soundHistory soundFields soundProcess soundChannelAt soundAt soundSystem assigned withHistory asCrashed reportPlan committingPlan messagePlan receivePlan recordedPlan respondPlan permitted carriedOut takenOff emptiedFrom stopped attempted stepped computed resultOf lineOf unitsTo entriesTo ranFrom logged holding alone k1 k2 k3 k4 k4-full k5-stays k5 k6 k7 k8 k9 ran acceptedFrom acceptedBy acceptedIn accepted entryOf bookEntry opened apart apartFrom admits writtenIn madeIn fed fedAll noneRefused acceptance agreement k2-accepted k2-agreements k2-book at-two at-three twice-accepted shared trials isMade k1-ends
+unfolding pick allUpTo eachUpTo at put has within subset with everyone firstFrom leastOf emptyChannel waiting pushed popped entryAt withEntry pendingAt withPending noProcess emptyRow processAt withProcess rowAt withRow channelTo withChannelTo channelAt withChannel sent sentIfNamed broadcasted takesIfNamed roomFor freshProcess freshSystem freshOf every soundProposal soundMessage soundPending soundChannel soundHistory soundFields soundProcess soundChannelAt soundAt soundSystem assigned withHistory asCrashed reportPlan committingPlan messagePlan receivePlan recordedPlan respondPlan permitted carriedOut takenOff emptiedFrom stopped attempted stepped computed resultOf lineOf unitsTo entriesTo ranFrom logged holding alone k1 k2 k3 k4 k4-full k5-stays k5 k6 k7 k8 k9 ran acceptedFrom acceptedBy acceptedIn accepted entryOf bookEntry opened apart apartFrom admits writtenIn madeIn fed fedAll noneRefused acceptance agreement k2-accepted k2-agreements k2-book at-two at-three twice-accepted shared trials isMade k1-ends variables carrying recorded written crashed
 definitions = tt
 
 pub worked-sheets : map computed cases ≡ map expected cases
 unfolding definitions
 worked-sheets = refl
+
+pub worked-points : map did points ≡ map said points
+unfolding definitions
+worked-points = refl
+
+-- K8, of every step there is: "every step on it gives 1".
+pub k8-every-step : (o : Step) → stepped (freshOf 0 .system) o ≡ refused 1 (freshOf 0 .system)
+unfolding definitions
+k8-every-step o = refl
 
 -- K1's complete final system.
 pub k1-final : ran (start 2) (k1 .steps) ≡ k1-ends

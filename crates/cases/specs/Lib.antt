@@ -1,4 +1,5 @@
--- The worked sheets of document 01, and the agreement rule at work on one of them.
+-- The worked sheets of document 01, single steps at the points easily misread, and the agreement rule at work on one sheet.
 pub mod Case
 pub mod Sheets
+pub mod Points
 pub mod Rule

@@ -13,7 +13,6 @@ use Rattle.view.specs.View.{has}
 use Rattle.system.specs.declared.History.{History}
 use Rattle.system.specs.declared.Process.{Process}
 use Rattle.system.specs.declared.System.{System}
-use Rattle.system.specs.Process.{entryAt}
 use Rattle.system.specs.System.{processAt}
 use Rattle.print.specs.Text.{bytes, textUpTo, digits, decimal, memberText, viewText}
 use Rattle.print.specs.Print.{numberedLine, entryText, entryOf, historyText, unitLine, unitOf, unitLines}
@@ -45,13 +44,13 @@ up-to (suc n) m f h = rw suc-mul (both (up-to n m f (λ k l. h k (omega arith)))
 all-digits : (n k : ℕ) → AtMost n (digits n k)
 unfolding digits
 all-digits zero k = none
-all-digits (suc n) k = either (ltb k 10) one (rw (← add-one) (both (all-digits n (k / 10)) one))
+all-digits (suc n) k = either (ltb k 10) one (rw (← add-one n) (both (all-digits n (k / 10)) one))
 
 few : (n d k : ℕ) → k < 10 ^ suc d → AtMost (suc d) (digits n k)
 unfolding digits pick
 few zero d k h = none
 few (suc n) zero k h = rw (lt-ltb k 10 h) one
-few (suc n) (suc d) k h = either (ltb k 10) one (rw (← add-one) (both (few n d (k / 10) (omega (arith, pow-suc 10 (suc d)))) one))
+few (suc n) (suc d) k h = either (ltb k 10) one (rw (← add-one (suc d)) (both (few n d (k / 10) (omega (arith, pow-suc 10 (suc d)))) one))
 
 twenty-digits : (k : ℕ) → AtMost 20 (decimal k)
 unfolding decimal
@@ -107,7 +106,7 @@ entry-length i v h = either (eqb v 0) none (both (both (both (words .space) (few
 
 history-length : (h : History) → AtMost 384 (historyText h)
 unfolding historyText entryOf
-history-length h = up-to 32 12 (entryOf h) (λ i l. entry-length i (entryAt h i) (omega arith))
+history-length h = up-to 32 12 (entryOf h) (λ i l. entry-length i _ (omega arith))
 
 unit-length : (k : ℕ) (p : Process) → k < 10 → AtMost 425 (unitLine k p)
 unfolding unitLine

@@ -51,6 +51,7 @@ printings =
     ∷ decimal 18446744073709551615 reads "18446744073709551615"
     ∷ numberedLine 7 4 reads "7 4\n"
     ∷ numberedLine 60000 8 reads "60000 8\n"
+    ∷ numberedLine 0 9 reads "0 9\n"
     ∷ unitLines k1 reads "unit 1 live next 3 1=12 2=1\nunit 2 live next 2 1=12\n"
     ∷ unitLines stopped reads "unit 1 stopped next 33 1=12345678 10=18 32=23\n"
     ∷ unitLines (freshSystem 0) reads ""

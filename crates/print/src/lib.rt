@@ -50,12 +50,14 @@ fn put_digits(out: &mut [u8], at: usize, n: u8, k: usize) -> usize
     }
 }
 
+// A number in decimal.
 pub fn put_decimal(out: &mut [u8], at: usize, k: usize) -> usize
     ensures { λ r. ⌜ page (now (out .exit)) r ≡ typed (page (now (out .entry)) at) (decimal k) ⌝ }
 {
     put_digits(out, at, 20, k)
 }
 
+// The digit of a process, if the view names it.
 fn put_member(out: &mut [u8], at: usize, view: u8, p: ProcessId) -> usize
     ensures { λ r. ⌜ page (now (out .exit)) r ≡ typed (page (now (out .entry)) at) (memberText view (p .0)) ⌝ }
 {
@@ -79,6 +81,7 @@ pub fn put_view(out: &mut [u8], at: usize, view: u8) -> usize
     next
 }
 
+// `position=view`, unless the view is empty.
 fn put_entry(out: &mut [u8], at: usize, i: GroupIndex, view: u8) -> usize
     ensures { λ r. ⌜ page (now (out .exit)) r ≡ typed (page (now (out .entry)) at) (entryText (i .0) view) ⌝ }
 {
@@ -92,6 +95,7 @@ fn put_entry(out: &mut [u8], at: usize, i: GroupIndex, view: u8) -> usize
     }
 }
 
+// Every position of a history that is not empty.
 fn put_history(out: &mut [u8], at: usize, h: History) -> usize
     ensures { λ r. ⌜ page (now (out .exit)) r ≡ typed (page (now (out .entry)) at) (historyText h) ⌝ }
 {

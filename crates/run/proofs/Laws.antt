@@ -12,8 +12,8 @@ use Rattle.view.proofs.Laws.{by-pick}
 use Rattle.system.specs.declared.System.{System}
 use Rattle.system.specs.declared.Outcome.{Outcome}
 use Rattle.system.specs.Fresh.{freshOf}
-use Rattle.agreement.proofs.Reachable.{fresh-kept}
-use Rattle.agreement.proofs.SoundSteps.{Kept, step-sound}
+use Rattle.agreement.proofs.Reachable.{fresh-valid}
+use Rattle.agreement.proofs.SoundSteps.{Valid, step-sound}
 use Rattle.print.specs.Text.{bytes}
 use Rattle.print.specs.Page.{Page, typed}
 use Rattle.print.specs.Print.{numberedLine, unitLines}
@@ -26,14 +26,14 @@ use Rattle.sheet.proofs.Laws.{Cut}
 use Rattle.run.specs.Output.{answered, noted, answersFrom, badFrom, sizeIn, startedBy, linesOutput, output}
 
 -- a line keeps the system sound
-pub answered-kept : (s : System) (l : Line) → Kept s → Kept (answered s l .system)
+pub answered-valid : (s : System) (l : Line) → Valid s → Valid (answered s l .system)
 unfolding answered
-answered-kept s Bad k = k
-answered-kept s (Fresh n) k = k
-answered-kept s (Report p v) k = step-sound s _ k
-answered-kept s (Receive q p) k = step-sound s _ k
-answered-kept s (Respond p q) k = step-sound s _ k
-answered-kept s (Crash p) k = step-sound s _ k
+answered-valid s Bad k = k
+answered-valid s (Fresh n) k = k
+answered-valid s (Report p v) k = step-sound s _ k
+answered-valid s (Receive q p) k = step-sound s _ k
+answered-valid s (Respond p q) k = step-sound s _ k
+answered-valid s (Crash p) k = step-sound s _ k
 
 -- total is the page in the end, p the page before the line and q the page after it
 then : (total p q : Page) (a b : List ℕ) → total ≡ typed p (a ++ b) → q ≡ typed p a → total ≡ typed q b
@@ -88,11 +88,11 @@ started-bad : (o : Outcome) (ls all : List (List ℕ)) → (o .refusal ≡ 0 →
 unfolding startedBy pick
 started-bad o ls all h = rw (ne-eqb (o .refusal) 0 h)
 
-fresh-outcome : (n : ℕ) → freshOf n .refusal ≡ 0 → Kept (freshOf n .system)
+fresh-outcome : (n : ℕ) → freshOf n .refusal ≡ 0 → Valid (freshOf n .system)
 unfolding freshOf
 fresh-outcome n =
-    by-pick (λ (o : Outcome). o .refusal ≡ 0 → Kept (o .system)) (isOneOf 8 n) _ _
-    (λ e good. fresh-kept n e)
+    by-pick (λ (o : Outcome). o .refusal ≡ 0 → Valid (o .system)) (isOneOf 8 n) _ _
+    (λ e good. fresh-valid n e)
     (λ e good. absurd (omega arith))
 
 output-by : (sheet : List ℕ) (start end next n : ℕ) (o : Outcome) (x : Line) → length sheet ≤ 60000 → Cut sheet 0 start end next
@@ -127,5 +127,5 @@ output-bad sheet start end next n o x h cut said size fresh bad =
     output-by sheet start end next n o x h cut said size fresh ∙ started-bad o (linesOf (drop next sheet)) (linesOf sheet) bad
 
 -- the system that a good first line starts
-pub started-kept : (n : ℕ) (o : Outcome) → o ≡ freshOf n → o .refusal ≡ 0 → Kept (o .system)
-started-kept n o fresh good = subst (λ (y : Outcome). y .refusal ≡ 0 → Kept (y .system)) (sym fresh) (fresh-outcome n) good
+pub started-valid : (n : ℕ) (o : Outcome) → o ≡ freshOf n → o .refusal ≡ 0 → Valid (o .system)
+started-valid n o fresh good = subst (λ (y : Outcome). y .refusal ≡ 0 → Valid (y .system)) (sym fresh) (fresh-outcome n) good

@@ -1,2 +1,3 @@
 -- What is printed for a sheet.
 pub mod Output
+pub mod Examples

@@ -2,9 +2,10 @@
 ghost use Prim.Native.Nat.{_≤_};
 ghost use mathlib.Core.Path.{_≡_};
 ghost use mathlib.Core.Bool.{true};
-ghost use lib.ListN.{length, take, drop};
+ghost use mathlib.Core.List.{_++_};
+ghost use lib.ListN.{length, drop};
 ghost use Rattle.sound.specs.Sound.{soundSystem};
-ghost use Rattle.agreement.proofs.SoundSteps.{Kept};
+ghost use Rattle.agreement.proofs.SoundSteps.{Valid};
 ghost use Rattle.print.specs.Page.{page, typed};
 ghost use Rattle.sheet.specs.Lines.{linesOf};
 ghost use Rattle.run.specs.Output.{answered, answersFrom, badFrom, sizeIn, output};
@@ -50,7 +51,7 @@ fn answer(s: System, line: Line) -> Outcome
 
 // The lines from a place on, of a sheet that runs on system s.
 fn answers(sheet: &[u8], from: usize, s: System, out: &mut [u8]) -> usize
-    requires { ⌜ Kept s × (length (now sheet) ≤ 60000) ⌝ }
+    requires { ⌜ Valid s × (length (now sheet) ≤ 60000) ⌝ }
     ensures { λ r. ⌜ page (now (out .exit)) r ≡ typed (page (now (out .entry)) 0) (answersFrom 2 s (linesOf (drop from (now (sheet .entry))))) ⌝ }
 {
     let mut system = s;
@@ -140,9 +141,9 @@ pub fn run_sheet(sheet: &[u8], out: &mut [u8]) -> usize
 }
 
 // A whole sheet, printed into a buffer that has room for it: what is printed is the buffer's first
-// bytes, as many as the answer says.
+// bytes, as many as the answer says, and the others stay.
 pub fn print_sheet(sheet: &[u8], out: &mut [u8; 483400]) -> usize
-    ensures { λ r. ⌜ (r ≡ length (output (now (sheet .entry)))) × (take r (now (out .exit)) ≡ output (now (sheet .entry))) × (r ≤ 483400) ⌝ }
+    ensures { λ r. ⌜ (r ≡ length (output (now (sheet .entry)))) × (now (out .exit) ≡ output (now (sheet .entry)) ++ drop r (now (out .entry))) × (r ≤ 483400) ⌝ }
 {
     run_sheet(sheet, out)
 }

@@ -141,10 +141,10 @@ pub digits-end : (last v : ℕ) (l : List ℕ) (i : ℕ) → length l ≤ i → 
 unfolding rising
 digits-end last v l i h = rw (drop-of-length-le l h)
 
-module _ (last v : ℕ) (l : List ℕ) (i : ℕ) (x : Bool) (is : x ≡ (ltb last (getD l i 0) && leb (getD l i 0) 56)) (h : i < length l) where
-  pub still-digit : x ≡ true → 48 ≤ last → 48 ≤ getD l i 0
-  still-digit e low = omega (arith, ltb-true last (getD l i 0) (and-left (ltb last (getD l i 0)) (leb (getD l i 0) 56) (sym is ∙ e)))
+pub still-digit : (last b top : ℕ) (x : Bool) → x ≡ (ltb last b && leb b top) → x ≡ true → 48 ≤ last → 48 ≤ b
+still-digit last b top x is e low = omega (arith, ltb-true last b (and-left (ltb last b) (leb b top) (sym is ∙ e)))
 
+module _ (last v : ℕ) (l : List ℕ) (i : ℕ) (x : Bool) (is : x ≡ (ltb last (getD l i 0) && leb (getD l i 0) 56)) (h : i < length l) where
   pub digits-go-on : (w : ℕ) → x ≡ true → w ≡ with v (getD l i 0 - 48) → rising last v (drop i l) ≡ rising (getD l i 0) w (drop (i + 1) l)
   unfolding rising pick
   digits-go-on w e added = rw (add-one, drop-cons l i 0 h, ← is, e, added)

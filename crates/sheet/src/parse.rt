@@ -96,6 +96,7 @@ fn rising(l: &[u8]) -> u16
     view as u16
 }
 
+// The view that a field says; NO_VIEW where it says none.
 fn view_in(l: &[u8]) -> u16
     ensures { λ r. ⌜ r ≡ viewIn (now (l .entry)) ⌝ }
 {
@@ -108,6 +109,7 @@ fn view_in(l: &[u8]) -> u16
     }
 }
 
+// What a line says.
 pub fn parse(l: &[u8]) -> Line
     ensures { λ r. ⌜ r ≡ parsed (now (l .entry)) ⌝ }
 {

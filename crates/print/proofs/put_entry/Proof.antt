@@ -38,12 +38,14 @@ same-length c = search needs
 
 returns-2 : tie.Need-returns-2
 unfolding entryText pick bytes
-returns-2 c = let v = c .before .before in
+returns-2 c =
+    let v = c .before .before in
     let e = v .before .before .before .before in
     let n = e .before .before .before .before .before in
     let s = n .before .before .before .before .before in
-    rw (ne-eqb _ _ (s .before .before .before .if1 .left))
-    (in-turn _ _ _ _ _ (in-turn _ _ _ _ _ (in-turn _ _ _ _ _ (s .put-text .ensures) (n .put-decimal .ensures)) (e .put-text2 .ensures)) (v .put-view .ensures))
+    let t2 = in-turn _ _ _ _ _ (s .put-text .ensures) (n .put-decimal .ensures) in
+    let t3 = in-turn _ _ _ _ _ t2 (e .put-text2 .ensures) in
+    rw (ne-eqb _ _ (s .before .before .before .if1 .left)) (in-turn _ _ _ _ _ t3 (v .put-view .ensures))
 
 pub put-entry-spec : {M : Type 1} → statement M
 put-entry-spec =

@@ -29,11 +29,14 @@ same-length c = search needs
 
 returns : tie.Need-returns
 unfolding numberedLine bytes
-returns c = let d = c .before .before in
+returns c =
+    let d = c .before .before in
     let r = d .before .before .before .before .before in
     let s = r .before .before .before .before in
     let n = s .before .before .before .before .before in
-    in-turn _ _ _ _ _ (in-turn _ _ _ _ _ (in-turn _ _ _ _ _ (n .put-decimal .ensures) (s .put-text .ensures)) (r .put-decimal2 .ensures)) (d .put-text2 .ensures)
+    let t2 = in-turn _ _ _ _ _ (n .put-decimal .ensures) (s .put-text .ensures) in
+    let t3 = in-turn _ _ _ _ _ t2 (r .put-decimal2 .ensures) in
+    in-turn _ _ _ _ _ t3 (d .put-text2 .ensures)
 
 pub put-numbered-spec : {M : Type 1} → statement M
 put-numbered-spec =

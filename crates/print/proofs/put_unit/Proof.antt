@@ -47,14 +47,20 @@ same-length c = search needs
 
 returns : tie.Need-returns
 unfolding unitLine bytes
-returns c = let g = c .before .before in
+returns c =
+    let g = c .before .before in
     let f = g .before .before .before .before .before in
     let e = f .before .before .before .before .before in
     let d = e .before .before .before .before .before in
     let s = d .before .before .before .before .before in
     let k = s .before .before .before .before in
     let u = k .before .before .before .before .before in
-    in-turn _ _ _ _ _ (in-turn _ _ _ _ _ (in-turn _ _ _ _ _ (in-turn _ _ _ _ _ (in-turn _ _ _ _ _ (in-turn _ _ _ _ _ (u .put-text .ensures) (k .put-decimal .ensures)) (s .put-state .ensures)) (d .put-text2 .ensures)) (e .put-decimal2 .ensures)) (f .put-history .ensures)) (g .put-text3 .ensures)
+    let t2 = in-turn _ _ _ _ _ (u .put-text .ensures) (k .put-decimal .ensures) in
+    let t3 = in-turn _ _ _ _ _ t2 (s .put-state .ensures) in
+    let t4 = in-turn _ _ _ _ _ t3 (d .put-text2 .ensures) in
+    let t5 = in-turn _ _ _ _ _ t4 (e .put-decimal2 .ensures) in
+    let t6 = in-turn _ _ _ _ _ t5 (f .put-history .ensures) in
+    in-turn _ _ _ _ _ t6 (g .put-text3 .ensures)
 
 pub put-unit-spec : {M : Type 1} → statement M
 put-unit-spec =

@@ -3,11 +3,11 @@ use mathlib.Core.Path.{refl, sym, _∙_, subst}
 use native.Mathlib.Omega.{arith}
 use Rattle.system.specs.declared.Outcome.{Outcome}
 use Rattle.sheet.proofs.Laws.{Cut, line-found, end-found}
-use Rattle.run.proofs.Laws.{answered-kept, answers-again, answers-end}
+use Rattle.run.proofs.Laws.{answered-valid, answers-again, answers-end}
 use Prim.Native.Nat.{_+_, _-_, _≤_}
 use mathlib.Core.Path.{_≡_}
 use lib.ListN.{length, drop}
-use Rattle.agreement.proofs.SoundSteps.{Kept}
+use Rattle.agreement.proofs.SoundSteps.{Valid}
 use Rattle.print.specs.Page.{page, typed}
 use Rattle.sheet.specs.Lines.{linesOf}
 use Rattle.run.specs.Output.{answersFrom}
@@ -17,7 +17,7 @@ use Rattle.run.proofs.answers.Tie as tie
 
 abbrev Inv-loop : tie.InvT-loop
 Inv-loop sheet from out₀ system₀ at₀ line₀ end₀ out system at line end =
-    Kept system
+    Valid system
     × (length sheet ≤ 60000)
     × (line ≤ at + 2)
     × (typed (page out₀ 0) (answersFrom 2 system₀ (linesOf (drop from sheet))) ≡ typed (page out end) (answersFrom line system (linesOf (drop at sheet))))
@@ -85,7 +85,7 @@ loop-again c =
     let l = c .before .before .before .before .before .before .before .before .before .before .before .before .loop in
     let k = cut (c .before .before .before .before .before .before .before .before) in
     let o = c .before .before .before .before .before .answer .ensures (l .inv .0 .sound) in (
-      subst (λ (r : Outcome). Kept (r .system)) (sym o) (answered-kept (l .system) _ (l .inv .0)),
+      subst (λ (r : Outcome). Valid (r .system)) (sym o) (answered-valid (l .system) _ (l .inv .0)),
       l .inv .1,
       omega (arith, l .inv .2, k .onward),
       answers-again _ _ _ _ _ _ _ _ _ _ _ _ k (c .before .before .before .before .before .before .parse .ensures) o (l .inv .3) (c .before .before .before .put-numbered .ensures),

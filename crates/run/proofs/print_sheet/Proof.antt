@@ -1,9 +1,13 @@
 -- `run::print_sheet`: the buffer has room for the whole output.
 use borrow.Author.Needs.{needs}
 use Prim.Native.Nat.{ℕ, _≤_}
-use mathlib.Core.Path.{_≡_, sym, subst}
-use lib.ListN.{length}
-use Rattle.print.proofs.Laws.{whole}
+use mathlib.Core.Path.{_≡_, sym, _∙_, ap, subst}
+use mathlib.Core.List.{List, _++_}
+use native.Mathlib.Omega.{arith}
+use native.Mathlib.Nat.{zero-add}
+use lib.ListN.{length, drop}
+use Rattle.print.specs.Page.{Page}
+use Rattle.print.proofs.Laws.{fits-in}
 use Rattle.run.specs.Output.{output}
 use Rattle.run.proofs.Bounds.{output-length}
 use Rattle.run.proofs.print_sheet.Statement.{statement}
@@ -15,9 +19,15 @@ run-sheet-requires c κs = search needs
 returns : tie.Need-returns
 returns c =
     let a = c .before .before .before .args in
+    let text = output (a .sheet .now) in
     let room : length (a .out .now) ≡ 483400 = search needs in
-    let w = whole _ _ _ _ (subst (λ (n : ℕ). length (output (a .sheet .now)) ≤ n) (sym room) (output-length (a .sheet .now))) (c .run-sheet .ensures) in
-    (w .count, w .text, subst (λ (n : ℕ). n ≤ 483400) (sym (w .count)) (output-length (a .sheet .now)))
+    let fits : length text ≤ length (a .out .now) = subst (λ (n : ℕ). length text ≤ n) (sym room) (output-length (a .sheet .now)) in
+    let page = c .run-sheet .ensures ∙ fits-in (a .out .now) 0 text (omega arith) in
+    let count : c .run-sheet .result ≡ length text = ap (λ (p : Page). p .place) page ∙ zero-add (length text) in (
+      count,
+      ap (λ (p : Page). p .buffer) page ∙ ap (λ (n : ℕ). text ++ drop n (a .out .now)) (zero-add (length text) ∙ sym count),
+      subst (λ (n : ℕ). n ≤ 483400) (sym count) (output-length (a .sheet .now)),
+    )
 
 pub print-sheet-spec : {M : Type 1} → statement M
 print-sheet-spec = tie.close (tie.spec run-sheet-requires returns)

@@ -3,7 +3,7 @@ use mathlib.Core.Path.{sym, _∙_, ap}
 use Rattle.print.specs.Text.{bytes}
 use Rattle.print.specs.Page.{typed}
 use Rattle.sheet.proofs.Laws.{Cut, line-found, end-found}
-use Rattle.run.proofs.Laws.{output-long, output-none, output-started, output-bad, started-kept}
+use Rattle.run.proofs.Laws.{output-long, output-none, output-started, output-bad, started-valid}
 use borrow.Author.Needs.{needs}
 use Rattle.run.proofs.run_sheet.Statement.{statement}
 use Rattle.run.proofs.run_sheet.Tie as tie
@@ -53,7 +53,7 @@ fresh-requires : tie.Need-fresh-requires
 fresh-requires c κs = search needs
 
 answers-requires : tie.Need-answers-requires
-answers-requires c κs = (started-kept _ _ (c .before .before .before .before .fresh .ensures) (c .before .before .if2 .taken), c .before .before .before .before .before .before .before .before .before .before .before .before .if1 .left)
+answers-requires c κs = (started-valid _ _ (c .before .before .before .before .fresh .ensures) (c .before .before .if2 .taken), c .before .before .before .before .before .before .before .before .before .before .before .before .if1 .left)
 
 all-bad-requires : tie.Need-all-bad-requires
 all-bad-requires c κs = search needs

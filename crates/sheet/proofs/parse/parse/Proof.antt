@@ -50,11 +50,34 @@ cast-t22 c = search needs
 
 returns-2 : tie.Need-returns-2
 unfolding parsed reported bytes pick
-returns-2 c = simp (← c .before .before .before .before .before .before .before .before .fits2 .ensures, c .before .before .before .before .before .before .before .if1 .left, ← c .before .before .before .before .before .begins .ensures, c .before .before .before .before .if2 .taken, ← (c .before .before .view-in .ensures ∙ ap viewIn (rest-of 4 (c .before .before .before .before .before .before .before .before .before .before .before .args .l .now))), lt-ltb _ _ (c .before .if3 .taken), ← c .digit-at2 .ensures)
+returns-2 c =
+    let r = c .before .before .before .before in
+    let u = r .before .before .before in
+    let l = u .before .before .before .before .args .l .now in
+    simp (
+      ← u .before .fits2 .ensures,
+      u .if1 .left,
+      ← r .before .begins .ensures,
+      r .if2 .taken,
+      ← (c .before .before .view-in .ensures ∙ ap viewIn (rest-of 4 l)),
+      lt-ltb _ _ (c .before .if3 .taken),
+      ← c .digit-at2 .ensures,
+    )
 
 returns-3 : tie.Need-returns-3
 unfolding parsed reported bytes pick
-returns-3 c = simp (← c .before .before .before .before .before .before .before .fits2 .ensures, c .before .before .before .before .before .before .if1 .left, ← c .before .before .before .before .begins .ensures, c .before .before .before .if2 .taken, ← (c .before .view-in .ensures ∙ ap viewIn (rest-of 4 (c .before .before .before .before .before .before .before .before .before .before .args .l .now))), le-ltb _ _ (c .if3 .left))
+returns-3 c =
+    let r = c .before .before .before in
+    let u = r .before .before .before in
+    let l = u .before .before .before .before .args .l .now in
+    simp (
+      ← u .before .fits2 .ensures,
+      u .if1 .left,
+      ← r .before .begins .ensures,
+      r .if2 .taken,
+      ← (c .before .view-in .ensures ∙ ap viewIn (rest-of 4 l)),
+      le-ltb _ _ (c .if3 .left),
+    )
 
 slice-aggregate-fits-2 : tie.Need-slice-aggregate-fits-2
 slice-aggregate-fits-2 c = search needs
@@ -70,7 +93,20 @@ digit-at-requires-4 c κs = search needs
 
 returns-4 : tie.Need-returns-4
 unfolding parsed reported bytes pick
-returns-4 c = simp (← c .before .before .before .before .before .before .before .before .before .fits2 .ensures, c .before .before .before .before .before .before .before .before .if1 .left, ← c .before .before .before .before .before .before .begins .ensures, c .before .before .before .before .before .if2 .left, ← c .before .before .before .fits3 .ensures, c .before .before .if4 .taken, ← c .before .digit-at3 .ensures, ← c .digit-at4 .ensures)
+returns-4 c =
+    let t = c .before .before in
+    let r = t .before .before .before in
+    let u = r .before .before .before in
+    simp (
+      ← u .before .fits2 .ensures,
+      u .if1 .left,
+      ← r .before .begins .ensures,
+      r .if2 .left,
+      ← t .before .fits3 .ensures,
+      t .if4 .taken,
+      ← c .before .digit-at3 .ensures,
+      ← c .digit-at4 .ensures,
+    )
 
 slice-aggregate-fits-3 : tie.Need-slice-aggregate-fits-3
 slice-aggregate-fits-3 c = search needs
@@ -86,7 +122,23 @@ digit-at-requires-6 c κs = search needs
 
 returns-5 : tie.Need-returns-5
 unfolding parsed reported bytes pick
-returns-5 c = simp (← c .before .before .before .before .before .before .before .before .before .before .before .before .fits2 .ensures, c .before .before .before .before .before .before .before .before .before .before .before .if1 .left, ← c .before .before .before .before .before .before .before .before .before .begins .ensures, c .before .before .before .before .before .before .before .before .if2 .left, ← c .before .before .before .before .before .before .fits3 .ensures, c .before .before .before .before .before .if4 .left, ← c .before .before .before .fits4 .ensures, c .before .before .if5 .taken, ← c .before .digit-at5 .ensures, ← c .digit-at6 .ensures)
+returns-5 c =
+    let a = c .before .before in
+    let t = a .before .before .before in
+    let r = t .before .before .before in
+    let u = r .before .before .before in
+    simp (
+      ← u .before .fits2 .ensures,
+      u .if1 .left,
+      ← r .before .begins .ensures,
+      r .if2 .left,
+      ← t .before .fits3 .ensures,
+      t .if4 .left,
+      ← a .before .fits4 .ensures,
+      a .if5 .taken,
+      ← c .before .digit-at5 .ensures,
+      ← c .digit-at6 .ensures,
+    )
 
 slice-aggregate-fits-4 : tie.Need-slice-aggregate-fits-4
 slice-aggregate-fits-4 c = search needs
@@ -99,11 +151,45 @@ digit-at-requires-7 c κs = search needs
 
 returns-6 : tie.Need-returns-6
 unfolding parsed reported bytes pick
-returns-6 c = simp (← c .before .before .before .before .before .before .before .before .before .before .before .before .before .before .fits2 .ensures, c .before .before .before .before .before .before .before .before .before .before .before .before .before .if1 .left, ← c .before .before .before .before .before .before .before .before .before .before .before .begins .ensures, c .before .before .before .before .before .before .before .before .before .before .if2 .left, ← c .before .before .before .before .before .before .before .before .fits3 .ensures, c .before .before .before .before .before .before .before .if4 .left, ← c .before .before .before .before .before .fits4 .ensures, c .before .before .before .before .if5 .left, ← c .before .before .fits5 .ensures, c .before .if6 .taken, ← c .digit-at7 .ensures)
+returns-6 c =
+    let s = c .before in
+    let a = s .before .before .before in
+    let t = a .before .before .before in
+    let r = t .before .before .before in
+    let u = r .before .before .before in
+    simp (
+      ← u .before .fits2 .ensures,
+      u .if1 .left,
+      ← r .before .begins .ensures,
+      r .if2 .left,
+      ← t .before .fits3 .ensures,
+      t .if4 .left,
+      ← a .before .fits4 .ensures,
+      a .if5 .left,
+      ← s .before .fits5 .ensures,
+      s .if6 .taken,
+      ← c .digit-at7 .ensures,
+    )
 
 returns-7 : tie.Need-returns-7
 unfolding parsed reported bytes pick
-returns-7 c = simp (← c .before .before .before .before .before .before .before .before .before .before .before .before .before .fits2 .ensures, c .before .before .before .before .before .before .before .before .before .before .before .before .if1 .left, ← c .before .before .before .before .before .before .before .before .before .before .begins .ensures, c .before .before .before .before .before .before .before .before .before .if2 .left, ← c .before .before .before .before .before .before .before .fits3 .ensures, c .before .before .before .before .before .before .if4 .left, ← c .before .before .before .before .fits4 .ensures, c .before .before .before .if5 .left, ← c .before .fits5 .ensures, c .if6 .left)
+returns-7 c =
+    let a = c .before .before .before in
+    let t = a .before .before .before in
+    let r = t .before .before .before in
+    let u = r .before .before .before in
+    simp (
+      ← u .before .fits2 .ensures,
+      u .if1 .left,
+      ← r .before .begins .ensures,
+      r .if2 .left,
+      ← t .before .fits3 .ensures,
+      t .if4 .left,
+      ← a .before .fits4 .ensures,
+      a .if5 .left,
+      ← c .before .fits5 .ensures,
+      c .if6 .left,
+    )
 
 pub parse-spec : {M : Type 1} → statement M
 parse-spec =

@@ -25,8 +25,7 @@ and-requires : tie.Need-and-requires Inv-loop μ-loop
 and-requires c κs = search needs
 
 sub-t12 : tie.Need-sub-t12 Inv-loop μ-loop
-sub-t12 c = let l = c .before .before .before .before .loop in
-    still-digit _ (l .view) (c .before .before .before .before .before .before .args .l .now) _ _ (c .before .and .ensures) (c .before .before .before .loop-test .taken) (c .if1 .taken) (l .inv .0)
+sub-t12 c = still-digit _ _ _ _ (c .before .and .ensures) (c .if1 .taken) (c .before .before .before .before .loop .inv .0)
 
 with-requires : tie.Need-with-requires Inv-loop μ-loop
 with-requires c κs = search needs
@@ -43,7 +42,7 @@ loop-less c = omega arith
 
 loop-again : tie.Need-loop-again Inv-loop μ-loop
 loop-again c = let l = c .before .before .before .before .before .loop in (
-  still-digit _ (l .view) (c .before .before .before .before .before .before .before .args .l .now) _ _ (c .before .before .and .ensures) (c .before .before .before .before .loop-test .taken) (c .before .if1 .taken) (l .inv .0),
+  still-digit _ _ _ _ (c .before .before .and .ensures) (c .before .if1 .taken) (l .inv .0),
   omega arith,
   l .inv .2 ∙ digits-go-on _ _ _ _ _ (c .before .before .and .ensures) (c .before .before .before .before .loop-test .taken) _ (c .before .if1 .taken) (c .with .ensures),
 )
