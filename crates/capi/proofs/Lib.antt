@@ -1,0 +1,4 @@
+pub mod Calls
+pub mod Image
+pub mod Laws
+pub mod Runs
