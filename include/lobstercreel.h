@@ -1,0 +1,87 @@
+/* Lobstercreel: the proved steps of the membership algorithm, for firmware in C.
+ *
+ * The library keeps nothing between calls and allocates nothing. The caller lends an image: 2,097 bytes that hold the whole system,
+ * every field one byte. Each function answers a number and changes nothing but what it was lent. On any answer but 0 a step leaves
+ * the image as it was, byte for byte. Any bytes may be handed over: what is no image, or no sound system, is refused with 1.
+ *
+ * A step takes about 28 KB of stack, lobstercreel_fresh 8 KB (measured on x86-64).
+ *
+ * Build the library with `rt staticlib capi` and link target/staticlib/libcapi.a (x86-64). docs/IMAGE.md has the layout as a table,
+ * and where each sentence here is proved.
+ *
+ * A pointer must not be null, must point to as many bytes as the length after it says, and two buffers of one call must not overlap:
+ * these three things no proof can ask of C.
+ */
+#ifndef LOBSTERCREEL_H
+#define LOBSTERCREEL_H
+
+#include <stddef.h>
+#include <stdint.h>
+
+#ifdef __cplusplus
+extern "C" {
+#endif
+
+/* The length of an image. */
+#define LOBSTERCREEL_IMAGE 2097
+
+/* Where things stand in an image. Units are numbered 1 to 8, positions of the history 1 to 32. */
+#define LOBSTERCREEL_N 0                                        /* how many units there are: 1 to 8 */
+#define LOBSTERCREEL_UNIT(p) (1 + 62 * ((p) - 1))               /* 62 bytes of unit p; the next lines count from here */
+#define LOBSTERCREEL_CRASHED 0                                  /* 1 once the unit has stopped, else 0 */
+#define LOBSTERCREEL_VIEW 1                                     /* its local view: bit k-1 is unit k */
+#define LOBSTERCREEL_NEXT 2                                     /* Next */
+#define LOBSTERCREEL_PROPOUT 3                                  /* PropOut */
+#define LOBSTERCREEL_PROPOSAL 4                                 /* the last proposed view; 0 for none */
+#define LOBSTERCREEL_ACKS 5                                     /* the units that have acknowledged, as a view */
+#define LOBSTERCREEL_RECORD(q) (6 + 3 * ((q) - 1))              /* the proposal recorded from unit q: tag, view, position */
+#define LOBSTERCREEL_ENTRY(i) (29 + (i))                        /* the view at position i of its history; 0 for none */
+#define LOBSTERCREEL_LINE(q, p) (497 + 200 * ((q) - 1) + 25 * ((p) - 1)) /* 25 bytes of the line from unit q to unit p */
+#define LOBSTERCREEL_SLOT(k) (3 * (k))                          /* its message k, the oldest is 0: tag and two operands */
+#define LOBSTERCREEL_LENGTH 24                                  /* how many messages wait: 0 to 8 */
+
+/* The tag of a recorded proposal. */
+enum { LOBSTERCREEL_NOTHING, LOBSTERCREEL_PROPOSED };
+
+/* The tag of a message, with its operands: Propose view position, Retry old new, Acc position 0, Commit view position. */
+enum { LOBSTERCREEL_PROPOSE, LOBSTERCREEL_RETRY, LOBSTERCREEL_ACC, LOBSTERCREEL_COMMIT };
+
+/* What a step answers. */
+enum {
+    LOBSTERCREEL_DONE = 0,         /* the image is that of the next system */
+    LOBSTERCREEL_UNSOUND = 1,      /* no sound system: a wrong length, a damaged image, or an unsound table */
+    LOBSTERCREEL_STRANGER = 2,     /* a unit number is not 1 to n */
+    LOBSTERCREEL_STOPPED = 3,      /* the unit that would act has stopped */
+    LOBSTERCREEL_WRONG_VIEW = 4,   /* the reported view names a unit beyond n, or lacks its own unit */
+    LOBSTERCREEL_NOTHING_THERE = 5,/* an empty line; or no recorded proposal of the local view */
+    LOBSTERCREEL_HISTORY_FULL = 6, /* the proposal would pass position 32 */
+    LOBSTERCREEL_LINE_FULL = 7     /* a message of this step finds a line that holds 8 */
+};
+
+/* Writes the image of the fresh system of n units. 0; or 2 for an n outside 1 to 8, and then the image is that of a system of zero
+ * units; or 1 for a length other than 2,097, and then nothing is written. */
+uint8_t lobstercreel_fresh(uint8_t *image, size_t length, uint8_t n);
+
+/* Unit p is told its view. */
+uint8_t lobstercreel_report(uint8_t *image, size_t length, uint8_t p, uint8_t view);
+
+/* Unit p takes the oldest message on the line from unit q. */
+uint8_t lobstercreel_receive(uint8_t *image, size_t length, uint8_t q, uint8_t p);
+
+/* Unit p answers the proposal that it recorded from unit q. */
+uint8_t lobstercreel_respond(uint8_t *image, size_t length, uint8_t p, uint8_t q);
+
+/* Unit p stops for good. */
+uint8_t lobstercreel_crash(uint8_t *image, size_t length, uint8_t p);
+
+/* Runs a whole sheet and writes what the bench program prints for it, as far as `out` has room; what lies past it in `out` stays.
+ * Answers how many bytes were written. Less than `room` is the whole output; as many as `room` may be cut off. A buffer of
+ * LOBSTERCREEL_OUTPUT bytes has room for every sheet. */
+#define LOBSTERCREEL_OUTPUT 483400
+size_t lobstercreel_run(const uint8_t *sheet, size_t length, uint8_t *out, size_t room);
+
+#ifdef __cplusplus
+}
+#endif
+
+#endif

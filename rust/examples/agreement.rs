@@ -1,0 +1,21 @@
+//! One agreement of two units: `cargo run --example agreement` in rust/, after `rt staticlib capi`.
+
+use lobstercreel::{Refusal, Step, System};
+
+fn main() -> Result<(), Refusal> {
+    let both = 0b11;
+    let mut system = System::fresh(2)?;
+    system.perform(Step::Report { p: 1, view: both })?;
+    for p in [1, 2] {
+        system.perform(Step::Receive { q: 1, p })?;
+        system.perform(Step::Respond { p, q: 1 })?;
+    }
+    for q in [1, 2] {
+        system.perform(Step::Receive { q, p: 1 })?;
+    }
+    for p in [1, 2] {
+        system.perform(Step::Receive { q: 1, p })?;
+        println!("unit {p} has the view {:?} at position 2", system.entry(p, 2));
+    }
+    Ok(())
+}

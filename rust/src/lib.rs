@@ -1,0 +1,107 @@
+//! The proved library in safe Rust. A [`System`] is the image that the library works on; every call
+//! answers `Ok`, or a refusal and leaves the image as it was.
+
+/// The length of an image (docs/IMAGE.md).
+pub const IMAGE: usize = 2_097;
+
+/// No sheet prints more bytes than this.
+pub const OUTPUT: usize = 483_400;
+
+// A Rust slice goes as its pointer and its length.
+extern "C" {
+    fn lobstercreel_fresh(image: *mut u8, length: usize, n: u8) -> u8;
+    fn lobstercreel_report(image: *mut u8, length: usize, p: u8, view: u8) -> u8;
+    fn lobstercreel_receive(image: *mut u8, length: usize, q: u8, p: u8) -> u8;
+    fn lobstercreel_respond(image: *mut u8, length: usize, p: u8, q: u8) -> u8;
+    fn lobstercreel_crash(image: *mut u8, length: usize, p: u8) -> u8;
+    fn lobstercreel_run(sheet: *const u8, length: usize, out: *mut u8, room: usize) -> usize;
+}
+
+/// A number of the refusal table, 1 to 7.
+#[derive(Clone, Copy, Debug, PartialEq, Eq)]
+pub struct Refusal(pub u8);
+
+pub type Answer = Result<(), Refusal>;
+
+fn answer(number: u8) -> Answer {
+    match number {
+        0 => Ok(()),
+        refusal => Err(Refusal(refusal)),
+    }
+}
+
+/// One of the four steps. Processes are numbered from 1; a view has process 1 as its lowest bit.
+#[derive(Clone, Copy, Debug, PartialEq, Eq)]
+pub enum Step {
+    Report { p: u8, view: u8 },
+    Receive { q: u8, p: u8 },
+    Respond { p: u8, q: u8 },
+    Crash { p: u8 },
+}
+
+/// Does a step on bytes that are to be an image; any others are refused with 1.
+pub fn step(image: &mut [u8], step: Step) -> Answer {
+    let (at, length) = (image.as_mut_ptr(), image.len());
+    // SAFETY: the pointer and the length are those of one slice, which is lent for the call alone.
+    answer(unsafe {
+        match step {
+            Step::Report { p, view } => lobstercreel_report(at, length, p, view),
+            Step::Receive { q, p } => lobstercreel_receive(at, length, q, p),
+            Step::Respond { p, q } => lobstercreel_respond(at, length, p, q),
+            Step::Crash { p } => lobstercreel_crash(at, length, p),
+        }
+    })
+}
+
+/// Writes the image of the fresh system of n processes; for a wrong n, refusal 2 and that of none.
+pub fn fresh(image: &mut [u8], n: u8) -> Answer {
+    // SAFETY: as in `step`.
+    answer(unsafe { lobstercreel_fresh(image.as_mut_ptr(), image.len(), n) })
+}
+
+/// What the bench program prints for a sheet.
+pub fn run_sheet(sheet: &[u8]) -> Vec<u8> {
+    let mut out = vec![0; OUTPUT];
+    let written = run_sheet_into(sheet, &mut out);
+    out.truncate(written);
+    out
+}
+
+/// The same, as far as the buffer has room; answers how many bytes were written.
+pub fn run_sheet_into(sheet: &[u8], out: &mut [u8]) -> usize {
+    // SAFETY: two slices, one of them lent alone, so they do not overlap.
+    unsafe { lobstercreel_run(sheet.as_ptr(), sheet.len(), out.as_mut_ptr(), out.len()) }
+}
+
+/// A system of 1 to 8 processes.
+#[derive(Clone, Debug, PartialEq, Eq)]
+pub struct System {
+    image: [u8; IMAGE],
+}
+
+impl System {
+    pub fn fresh(n: u8) -> Result<System, Refusal> {
+        let mut image = [0; IMAGE];
+        fresh(&mut image, n).map(|()| System { image })
+    }
+
+    /// Any bytes: if they are no image of a sound system, each step is refused with 1.
+    pub fn from_image(image: [u8; IMAGE]) -> System {
+        System { image }
+    }
+
+    pub fn image(&self) -> &[u8; IMAGE] {
+        &self.image
+    }
+
+    pub fn perform(&mut self, o: Step) -> Answer {
+        step(&mut self.image, o)
+    }
+
+    /// The entry of process p at position i, if it is written.
+    pub fn entry(&self, p: u8, i: u8) -> Option<u8> {
+        let there = (1..=8).contains(&p) && (1..=32).contains(&i);
+        let at = || 1 + 62 * (usize::from(p) - 1) + 29 + usize::from(i);
+        there.then(|| self.image[at()]).filter(|&view| view != 0)
+    }
+}
