@@ -1,8 +1,8 @@
 // The system as an image in bytes that the caller lends, for programs in C and other languages.
 ghost use mathlib.Core.Path.{_≡_};
-ghost use Prim.Native.Nat.{_≤_};
+ghost use Prim.Native.Nat.{_+_, _≤_, _<_};
 ghost use mathlib.Core.List.{[], _∷_};
-ghost use lib.ListN.{getD, drop};
+ghost use lib.ListN.{length, getD, drop};
 ghost use Rattle.view.specs.Logic.{pick};
 ghost use Rattle.print.specs.Page.{page, typed};
 ghost use Rattle.capi.specs.Image.{joined, messageBytes, channelBytes, rowBytes, pendingBytes, recordBytes, processBytes, encoded, messageOf, slotIn, channelIn, rowIn, pendingOf, recordIn, historyIn, processIn, decoded, anyPart, tagAbove, damagedProcess, damagedRow};
@@ -32,10 +32,12 @@ pub const IMAGE: usize = 2_097;
 
 // ---- from an image to the system
 
+// Each function below reads from a place on, where the image has all the bytes that it reads.
 fn byte_at(image: &[u8], at: usize) -> u8
+    requires { ⌜ at < length (now image) ⌝ }
     ensures { λ r. ⌜ r ≡ getD (now (image .entry)) at 0 ⌝ }
 {
-    if at < image.len() { image[at] } else { 0 }
+    image[at]
 }
 
 fn message_of(tag: u8, x: u8, y: u8) -> Message
@@ -53,7 +55,7 @@ fn message_of(tag: u8, x: u8, y: u8) -> Message
 }
 
 fn read_slot(image: &[u8], at: usize) -> Slot
-    requires { ⌜ at ≤ 4096 ⌝ }
+    requires { ⌜ at + 3 ≤ length (now image) ⌝ }
     ensures { λ r. ⌜ r ≡ slotIn (drop at (now (image .entry))) ⌝ }
 {
     let message = message_of(
@@ -65,7 +67,7 @@ fn read_slot(image: &[u8], at: usize) -> Slot
 }
 
 fn read_channel(image: &[u8], at: usize) -> Channel
-    requires { ⌜ at ≤ 4000 ⌝ }
+    requires { ⌜ at + 25 ≤ length (now image) ⌝ }
     ensures { λ r. ⌜ r ≡ channelIn (drop at (now (image .entry))) ⌝ }
 {
     let mut c = channel::empty();
@@ -79,7 +81,7 @@ fn read_channel(image: &[u8], at: usize) -> Channel
 }
 
 fn read_row(image: &[u8], at: usize) -> Row
-    requires { ⌜ at ≤ 3000 ⌝ }
+    requires { ⌜ at + 200 ≤ length (now image) ⌝ }
     ensures { λ r. ⌜ r ≡ rowIn (drop at (now (image .entry))) ⌝ }
 {
     let c = channel::empty();
@@ -103,7 +105,7 @@ fn pending_of(tag: u8, x: u8, y: u8) -> Pending
 }
 
 fn read_record(image: &[u8], at: usize) -> PendingSlot
-    requires { ⌜ at ≤ 4096 ⌝ }
+    requires { ⌜ at + 3 ≤ length (now image) ⌝ }
     ensures { λ r. ⌜ r ≡ recordIn (drop at (now (image .entry))) ⌝ }
 {
     let pending = pending_of(
@@ -115,7 +117,7 @@ fn read_record(image: &[u8], at: usize) -> PendingSlot
 }
 
 fn read_history(image: &[u8], at: usize) -> History
-    requires { ⌜ at ≤ 4000 ⌝ }
+    requires { ⌜ at + 32 ≤ length (now image) ⌝ }
     ensures { λ r. ⌜ r ≡ historyIn (drop at (now (image .entry))) ⌝ }
 {
     let mut entries = [0u8; 32];
@@ -128,7 +130,7 @@ fn read_history(image: &[u8], at: usize) -> History
 }
 
 fn read_process(image: &[u8], at: usize) -> Process
-    requires { ⌜ at ≤ 3000 ⌝ }
+    requires { ⌜ at + 62 ≤ length (now image) ⌝ }
     ensures { λ r. ⌜ r ≡ processIn (drop at (now (image .entry))) ⌝ }
 {
     let slot = PendingSlot {
@@ -154,6 +156,7 @@ fn read_process(image: &[u8], at: usize) -> Process
 }
 
 fn read_system(image: &[u8]) -> System
+    requires { ⌜ length (now image) ≡ 2097 ⌝ }
     ensures { λ r. ⌜ r ≡ decoded (now (image .entry)) ⌝ }
 {
     let p = read_process(image, 1);
@@ -174,7 +177,7 @@ fn read_system(image: &[u8]) -> System
 
 // Of eight parts of three bytes one has a tag above the most that it can be.
 fn any_tag_above(image: &[u8], at: usize, most: u8) -> bool
-    requires { ⌜ at ≤ 4000 ⌝ }
+    requires { ⌜ at + 24 ≤ length (now image) ⌝ }
     ensures { λ r. ⌜ r ≡ anyPart 8 3 (tagAbove most) (drop at (now (image .entry))) ⌝ }
 {
     let mut found = false;
@@ -187,13 +190,14 @@ fn any_tag_above(image: &[u8], at: usize, most: u8) -> bool
 }
 
 fn damaged_process(image: &[u8], at: usize) -> bool
-    requires { ⌜ at ≤ 3000 ⌝ }
+    requires { ⌜ at + 62 ≤ length (now image) ⌝ }
     ensures { λ r. ⌜ r ≡ damagedProcess (drop at (now (image .entry))) ⌝ }
 {
     or(1 < byte_at(image, at), any_tag_above(image, at + 6, 1))
 }
 
 fn any_damaged_process(image: &[u8]) -> bool
+    requires { ⌜ length (now image) ≡ 2097 ⌝ }
     ensures { λ r. ⌜ r ≡ anyPart 8 62 damagedProcess (drop 1 (now (image .entry))) ⌝ }
 {
     let mut found = false;
@@ -206,7 +210,7 @@ fn any_damaged_process(image: &[u8]) -> bool
 }
 
 fn damaged_row(image: &[u8], at: usize) -> bool
-    requires { ⌜ at ≤ 3000 ⌝ }
+    requires { ⌜ at + 200 ≤ length (now image) ⌝ }
     ensures { λ r. ⌜ r ≡ damagedRow (drop at (now (image .entry))) ⌝ }
 {
     let mut found = false;
@@ -219,6 +223,7 @@ fn damaged_row(image: &[u8], at: usize) -> bool
 }
 
 fn any_damaged_row(image: &[u8]) -> bool
+    requires { ⌜ length (now image) ≡ 2097 ⌝ }
     ensures { λ r. ⌜ r ≡ anyPart 8 200 damagedRow (drop 497 (now (image .entry))) ⌝ }
 {
     let mut found = false;
