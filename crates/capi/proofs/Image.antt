@@ -2,8 +2,9 @@
 -- read from bytes has the right shape.
 use Prim.Native.Nat.{ℕ, zero, suc, _+_, _*_}
 use mathlib.Core.Path.{_≡_, refl, sym, _∙_, ap, subst}
-use mathlib.Core.Bool.{Bool, true, false}
+use mathlib.Core.Bool.{Bool, true, false, _||_}
 use mathlib.Core.List.{List, [], _∷_, _++_, append-assoc, append-nil}
+use native.Mathlib.Omega.{arith}
 use native.Mathlib.Nat.{add-comm, mul-suc, mul-zero}
 use lib.Dec.{eqb, ltb}
 use lib.ListN.{length, getD, drop, length-append}

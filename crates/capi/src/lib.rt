@@ -1,8 +1,8 @@
 // The system as an image in bytes that the caller lends, for programs in C and other languages.
 ghost use mathlib.Core.Path.{_≡_};
-ghost use Prim.Native.Nat.{_+_, _≤_, _<_};
+ghost use Prim.Native.Nat.{_≤_};
 ghost use mathlib.Core.List.{[], _∷_};
-ghost use lib.ListN.{length, getD, drop};
+ghost use lib.ListN.{getD, drop};
 ghost use Rattle.view.specs.Logic.{pick};
 ghost use Rattle.print.specs.Page.{page, typed};
 ghost use Rattle.capi.specs.Image.{joined, messageBytes, channelBytes, rowBytes, pendingBytes, recordBytes, processBytes, encoded, messageOf, slotIn, channelIn, rowIn, pendingOf, recordIn, historyIn, processIn, decoded, anyPart, tagAbove, damagedProcess, damagedRow};
@@ -32,12 +32,10 @@ pub const IMAGE: usize = 2_097;
 
 // ---- from an image to the system
 
-// Each function below reads from a place on, where the image has all the bytes that it reads.
 fn byte_at(image: &[u8], at: usize) -> u8
-    requires { ⌜ at < length (now image) ⌝ }
     ensures { λ r. ⌜ r ≡ getD (now (image .entry)) at 0 ⌝ }
 {
-    image[at]
+    if at < image.len() { image[at] } else { 0 }
 }
 
 fn message_of(tag: u8, x: u8, y: u8) -> Message
@@ -55,7 +53,7 @@ fn message_of(tag: u8, x: u8, y: u8) -> Message
 }
 
 fn read_slot(image: &[u8], at: usize) -> Slot
-    requires { ⌜ at + 3 ≤ length (now image) ⌝ }
+    requires { ⌜ at ≤ 4096 ⌝ }
     ensures { λ r. ⌜ r ≡ slotIn (drop at (now (image .entry))) ⌝ }
 {
     let message = message_of(
@@ -67,7 +65,7 @@ fn read_slot(image: &[u8], at: usize) -> Slot
 }
 
 fn read_channel(image: &[u8], at: usize) -> Channel
-    requires { ⌜ at + 25 ≤ length (now image) ⌝ }
+    requires { ⌜ at ≤ 4000 ⌝ }
     ensures { λ r. ⌜ r ≡ channelIn (drop at (now (image .entry))) ⌝ }
 {
     let mut c = channel::empty();
@@ -81,7 +79,7 @@ fn read_channel(image: &[u8], at: usize) -> Channel
 }
 
 fn read_row(image: &[u8], at: usize) -> Row
-    requires { ⌜ at + 200 ≤ length (now image) ⌝ }
+    requires { ⌜ at ≤ 3000 ⌝ }
     ensures { λ r. ⌜ r ≡ rowIn (drop at (now (image .entry))) ⌝ }
 {
     let c = channel::empty();
@@ -105,7 +103,7 @@ fn pending_of(tag: u8, x: u8, y: u8) -> Pending
 }
 
 fn read_record(image: &[u8], at: usize) -> PendingSlot
-    requires { ⌜ at + 3 ≤ length (now image) ⌝ }
+    requires { ⌜ at ≤ 4096 ⌝ }
     ensures { λ r. ⌜ r ≡ recordIn (drop at (now (image .entry))) ⌝ }
 {
     let pending = pending_of(
@@ -117,7 +115,7 @@ fn read_record(image: &[u8], at: usize) -> PendingSlot
 }
 
 fn read_history(image: &[u8], at: usize) -> History
-    requires { ⌜ at + 32 ≤ length (now image) ⌝ }
+    requires { ⌜ at ≤ 4000 ⌝ }
     ensures { λ r. ⌜ r ≡ historyIn (drop at (now (image .entry))) ⌝ }
 {
     let mut entries = [0u8; 32];
@@ -130,7 +128,7 @@ fn read_history(image: &[u8], at: usize) -> History
 }
 
 fn read_process(image: &[u8], at: usize) -> Process
-    requires { ⌜ at + 62 ≤ length (now image) ⌝ }
+    requires { ⌜ at ≤ 3000 ⌝ }
     ensures { λ r. ⌜ r ≡ processIn (drop at (now (image .entry))) ⌝ }
 {
     let slot = PendingSlot {
@@ -156,7 +154,6 @@ fn read_process(image: &[u8], at: usize) -> Process
 }
 
 fn read_system(image: &[u8]) -> System
-    requires { ⌜ length (now image) ≡ 2097 ⌝ }
     ensures { λ r. ⌜ r ≡ decoded (now (image .entry)) ⌝ }
 {
     let p = read_process(image, 1);
@@ -177,7 +174,7 @@ fn read_system(image: &[u8]) -> System
 
 // Of eight parts of three bytes one has a tag above the most that it can be.
 fn any_tag_above(image: &[u8], at: usize, most: u8) -> bool
-    requires { ⌜ at + 24 ≤ length (now image) ⌝ }
+    requires { ⌜ at ≤ 4000 ⌝ }
     ensures { λ r. ⌜ r ≡ anyPart 8 3 (tagAbove most) (drop at (now (image .entry))) ⌝ }
 {
     let mut found = false;
@@ -190,14 +187,13 @@ fn any_tag_above(image: &[u8], at: usize, most: u8) -> bool
 }
 
 fn damaged_process(image: &[u8], at: usize) -> bool
-    requires { ⌜ at + 62 ≤ length (now image) ⌝ }
+    requires { ⌜ at ≤ 3000 ⌝ }
     ensures { λ r. ⌜ r ≡ damagedProcess (drop at (now (image .entry))) ⌝ }
 {
     or(1 < byte_at(image, at), any_tag_above(image, at + 6, 1))
 }
 
 fn any_damaged_process(image: &[u8]) -> bool
-    requires { ⌜ length (now image) ≡ 2097 ⌝ }
     ensures { λ r. ⌜ r ≡ anyPart 8 62 damagedProcess (drop 1 (now (image .entry))) ⌝ }
 {
     let mut found = false;
@@ -210,7 +206,7 @@ fn any_damaged_process(image: &[u8]) -> bool
 }
 
 fn damaged_row(image: &[u8], at: usize) -> bool
-    requires { ⌜ at + 200 ≤ length (now image) ⌝ }
+    requires { ⌜ at ≤ 3000 ⌝ }
     ensures { λ r. ⌜ r ≡ damagedRow (drop at (now (image .entry))) ⌝ }
 {
     let mut found = false;
@@ -223,7 +219,6 @@ fn damaged_row(image: &[u8], at: usize) -> bool
 }
 
 fn any_damaged_row(image: &[u8]) -> bool
-    requires { ⌜ length (now image) ≡ 2097 ⌝ }
     ensures { λ r. ⌜ r ≡ anyPart 8 200 damagedRow (drop 497 (now (image .entry))) ⌝ }
 {
     let mut found = false;

@@ -3,6 +3,7 @@ use Prim.Native.Nat.{_-_, _≤_}
 use mathlib.Core.Path.{_≡_}
 use native.Mathlib.Omega.{arith}
 use Rattle.print.specs.Page.{page, typed}
+use mathlib.Core.Path.{_≡_, _∙_}
 use lib.ListN.{length, take}
 use Rattle.view.proofs.Laws.{long}
 use Rattle.print.proofs.Laws.{in-turn}

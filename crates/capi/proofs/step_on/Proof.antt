@@ -1,7 +1,6 @@
 -- `capi::step_on`: read, step, write; or nothing changes.
-use mathlib.Core.Path.{sym, _∙_}
-use Rattle.capi.proofs.Calls.{long-enough, step-done, step-refused, step-unreadable}
 use borrow.Author.Needs.{needs}
+use Rattle.capi.proofs.Calls.{step-done, step-refused, step-unreadable}
 use Rattle.capi.proofs.step_on.Statement.{statement}
 use Rattle.capi.proofs.step_on.Tie as tie
 
@@ -9,7 +8,7 @@ readable-requires : tie.Need-readable-requires
 readable-requires c κs = search needs
 
 read-system-requires : tie.Need-read-system-requires
-read-system-requires c κs = long-enough _ (sym (c .before .before .readable .ensures) ∙ c .before .if1 .taken)
+read-system-requires c κs = search needs
 
 perform-requires : tie.Need-perform-requires
 perform-requires c κs = search needs
