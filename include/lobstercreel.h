@@ -4,7 +4,7 @@
  * every field one byte. Each function answers a number and changes nothing but what it was lent. On any answer but 0 a step leaves
  * the image as it was, byte for byte. Any bytes may be handed over: what is no image, or no sound system, is refused with 1.
  *
- * A step takes about 28 KB of stack, lobstercreel_fresh 8 KB (measured on x86-64).
+ * A step takes about 22 KB of stack, lobstercreel_fresh 6 KB (measured on x86-64).
  *
  * Build the library with `rt staticlib capi` and link target/staticlib/libcapi.a (x86-64). docs/IMAGE.md has the layout as a table,
  * and where each sentence here is proved.
@@ -52,7 +52,7 @@ enum {
     LOBSTERCREEL_UNSOUND = 1,      /* no sound system: a wrong length, a damaged image, or an unsound table */
     LOBSTERCREEL_STRANGER = 2,     /* a unit number is not 1 to n */
     LOBSTERCREEL_STOPPED = 3,      /* the unit that would act has stopped */
-    LOBSTERCREEL_WRONG_VIEW = 4,   /* the reported view names a unit beyond n, or lacks its own unit */
+    LOBSTERCREEL_ODD_VIEW = 4,     /* the reported view names a unit beyond n, or lacks its own unit */
     LOBSTERCREEL_NOTHING_THERE = 5,/* an empty line; or no recorded proposal of the local view */
     LOBSTERCREEL_HISTORY_FULL = 6, /* the proposal would pass position 32 */
     LOBSTERCREEL_LINE_FULL = 7     /* a message of this step finds a line that holds 8 */

@@ -15,7 +15,8 @@ fn main() -> Result<(), Refusal> {
     }
     for p in [1, 2] {
         system.perform(Step::Receive { q: 1, p })?;
-        println!("unit {p} has the view {:?} at position 2", system.entry(p, 2));
+        assert_eq!(system.entry(p, 2), Some(both));
+        println!("unit {p} has the view of both at position 2");
     }
     Ok(())
 }

@@ -14,9 +14,8 @@ use Rattle.system.specs.declared.Pending.the-variants.{Nothing}
 use Rattle.system.specs.declared.Process.{Process}
 use Rattle.system.specs.declared.Outcome.{Outcome}
 use Rattle.system.specs.Process.{entryAt, withEntry, noEntries, pendingAt, pendingSlot}
-use Rattle.system.specs.System.{noProcess, emptyRow, processAt, rowAt, channelAt}
+use Rattle.system.specs.System.{noProcess, processAt, channelNumber, channelAt}
 use Rattle.system.specs.Fresh.{freshProcess, freshSystem, freshOf}
-use Rattle.system.proofs.Laws.{empty-row}
 use Rattle.agreement.specs.Accepted.{accepted}
 use Rattle.agreement.specs.Book.{entryOf}
 use Rattle.agreement.proofs.Frames.{Shape}
@@ -37,13 +36,9 @@ module _ (n : ℕ) where
   unfolding processAt freshSystem
   each-fresh P h e p = one-or-none P 8 p (freshProcess n) noProcess h e
 
-  fresh-row : (q : ℕ) → rowAt (freshSystem n) q ≡ emptyRow
-  unfolding rowAt freshSystem
-  fresh-row q = at-replicate 8 q emptyRow
-
   fresh-channel : (q p : ℕ) → channelAt (freshSystem n) q p ≡ emptyChannel
-  unfolding channelAt
-  fresh-channel q p = rw (fresh-row q) (empty-row p)
+  unfolding channelAt freshSystem
+  fresh-channel q p = at-replicate 64 (channelNumber q p) emptyChannel
 
   no-pending : (q : ℕ) → at (replicate 8 (pendingSlot Nothing)) q (pendingSlot Nothing) ≡ pendingSlot Nothing
   no-pending q = at-replicate 8 q (pendingSlot Nothing)
@@ -64,10 +59,6 @@ module _ (n : ℕ) where
   no-entry : (i : ℕ) → entryAt noEntries i ≡ 0
   unfolding entryAt
   no-entry i = at-replicate 32 i 0
-
-  empty-row-long : length (emptyRow .channels) ≡ 8
-  unfolding emptyRow
-  empty-row-long = refl
 
   fresh-own : (p : ℕ) → Own [] p (processAt (freshSystem n) p)
   unfolding freshProcess noProcess
@@ -92,8 +83,7 @@ module _ (n : ℕ) where
   fresh-shape =
       record {
         processes = refl;
-        rows = refl;
-        channels = λ q. rw (fresh-row q) empty-row-long;
+        channels = refl;
         slots = λ q p. rw (fresh-channel q p) empty-long;
         pending = each-fresh (λ x. length (x .pending) ≡ 8) refl refl;
         entries = each-fresh (λ x. length (x .history .entries) ≡ 32) refl refl;

@@ -146,7 +146,7 @@ module _ (s : System) (acc : List Acceptance) (r : Reached s acc) where
   holds v i u number e = holds-upto v i u (number .low) e 8 (number .high) (omega arith)
 
   abbrev candidate : ℕ → ℕ → Agreement
-  candidate p i = record { view = entryOf s p i; index = i; writers = holders (entryOf s p i) i }
+  candidate p i = record { view = entryOf s p i; index = i; recipients = holders (entryOf s p i) i }
 
   -- ---- a book on the way
   abbrev pub Settled : Book → ℕ → ℕ → Type 0
@@ -220,21 +220,21 @@ module _ (s : System) (acc : List Acceptance) (r : Reached s acc) where
     g = candidate p i
 
     -- an entry after the agreement is made: the entry of a holder, or as before
-    each-made : (w j : ℕ) (P : ℕ → Type 0) → (has (g .writers) w ≡ true → j ≡ i → P (entryOf s w j)) → ((has (g .writers) w ≡ true → j ≡ i → ⊥) → P (bookEntry b w j)) → P (bookEntry (madeIn b g) w j)
+    each-made : (w j : ℕ) (P : ℕ → Type 0) → (has (g .recipients) w ≡ true → j ≡ i → P (entryOf s w j)) → ((has (g .recipients) w ≡ true → j ≡ i → ⊥) → P (bookEntry b w j)) → P (bookEntry (madeIn b g) w j)
     unfolding bookEntry madeIn
     each-made w j P here there =
-        by-holder (has (g .writers) w) refl
+        by-holder (has (g .recipients) w) refl
       where
-        by-holder : (t : Bool) → has (g .writers) w ≡ t → P (entryAt (at (eachUpTo 8 (writtenIn g) (b .histories)) w noEntries) j)
+        by-holder : (t : Bool) → has (g .recipients) w ≡ t → P (entryAt (at (eachUpTo 8 (writtenIn g) (b .histories)) w noEntries) j)
         by-holder true e =
             by-number j i
             (λ q.
-            let number = has-number (g .writers) w e in
+            let number = has-number (g .recipients) w e in
             let written = written-entry g (omega arith) high (b .histories) (f .long) w (record { low = number .0; high = number .1 }) e in
             subst P (ap (entryOf s w) q ∙ held (entryOf s p i) i w e ∙ sym written ∙ ap (entryAt (at (eachUpTo 8 (writtenIn g) (b .histories)) w noEntries)) (sym q)) (here e q))
             (λ n. subst P (sym (other-entry g (omega arith) high (b .histories) (f .long) w j (λ h q. n q))) (there (λ h q. n q)))
         by-holder false e =
-            let no-holder : has (g .writers) w ≡ true → j ≡ i → ⊥ = λ h q. true-is-not-false (sym h ∙ e) in
+            let no-holder : has (g .recipients) w ≡ true → j ≡ i → ⊥ = λ h q. true-is-not-false (sym h ∙ e) in
             subst P (sym (other-entry g (omega arith) high (b .histories) (f .long) w j no-holder)) (there no-holder)
 
     -- what is settled stays

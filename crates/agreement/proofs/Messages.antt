@@ -16,7 +16,7 @@ use Rattle.channel.specs.declared.Channel.{Channel}
 use Rattle.channel.specs.Channel.{emptyChannel, waiting, pushed, popped}
 use Rattle.channel.proofs.Laws.{push-waiting, pop-waiting}
 use Rattle.system.specs.declared.System.{System}
-use Rattle.system.specs.System.{processAt, channelAt, withChannel, withRow, sent, sentIfNamed, broadcasted}
+use Rattle.system.specs.System.{processAt, channelAt, withChannel, sent, sentIfNamed, broadcasted}
 use Rattle.step.specs.Step.{takenOff, emptiedFrom}
 use Rattle.agreement.proofs.Frames.{Shape, Numbered, each-channel, shape-channel}
 
@@ -80,7 +80,7 @@ broadcast-keeps K s q v m h k =
     k
 
 pub broadcast-processes : (s : System) (q v : ℕ) (m : Message) (k : ℕ) → processAt (broadcasted s q v m) k ≡ processAt s k
-unfolding processAt withChannel withRow
+unfolding processAt withChannel
 broadcast-processes s q v m =
     broadcast-keeps (λ t. (k : ℕ) → processAt t k ≡ processAt s k) s q v m (λ t p n named live e. e) (λ k. refl)
 
@@ -95,7 +95,7 @@ module _ (R : ℕ → ℕ → Message → Type 0) (s : System) where
   pub kept-with : (t : System) (q p : ℕ) → Numbered q → Numbered p → (c : Channel) → length (c .slots) ≡ 8 → Each (R q p) (waiting c)
       → Kept R s t
       → Kept R s (withChannel t q p c)
-  unfolding processAt withChannel withRow
+  unfolding processAt withChannel
   kept-with t q p from to c long each k =
       record {
         shape = shape-channel t (k .shape) q p from to c long;

@@ -1,4 +1,4 @@
--- What a made agreement writes in the book: its view, at its index, for its writers; nothing else changes.
+-- What a made agreement writes in the book: its view, at its index, for its recipients; nothing else changes.
 use Prim.Native.Nat.{ℕ, zero, suc, _≤_}
 use mathlib.Core.Path.{_≡_, refl, sym, _∙_, ap, subst}
 use mathlib.Core.Bool.{true}
@@ -41,7 +41,7 @@ module _ (g : Agreement) where
   long-written : (k : ℕ) → 1 ≤ k → k ≤ 8 → (hs : List History) → Long hs → Long (writtenIn g k hs)
   unfolding writtenIn
   long-written k l u hs long =
-      by-pick Long (has (g .writers) k) (put hs k (page hs k)) hs
+      by-pick Long (has (g .recipients) k) (put hs k (page hs k)) hs
       (λ named.
       record {
         histories = length-put hs k _ ∙ long .histories;
@@ -56,21 +56,21 @@ module _ (g : Agreement) where
 
   module _ (inside : 1 ≤ g .index) (within : g .index ≤ 32) where
     -- what is not written stays
-    pub other-entry : (hs : List History) → Long hs → (w j : ℕ) → (has (g .writers) w ≡ true → j ≡ g .index → ⊥)
+    pub other-entry : (hs : List History) → Long hs → (w j : ℕ) → (has (g .recipients) w ≡ true → j ≡ g .index → ⊥)
         → entryAt (at (eachUpTo 8 (writtenIn g) hs) w noEntries) j ≡ entryAt (at hs w noEntries) j
     unfolding writtenIn
     other-entry hs long w j apart =
         each-keeps (λ ks. Long ks × (entryAt (at ks w noEntries) j ≡ entryAt (at hs w noEntries) j)) 8 (writtenIn g)
         (λ k l u ks h. (
           long-written k l u ks (h .0),
-          by-pick (λ (xs : List History). entryAt (at xs w noEntries) j ≡ entryAt (at hs w noEntries) j) (has (g .writers) k) _ ks
+          by-pick (λ (xs : List History). entryAt (at xs w noEntries) j ≡ entryAt (at hs w noEntries) j) (has (g .recipients) k) _ ks
               (λ named.
               each-history ks k (page ks k) (record { low = l; high = u }) (h .0 .histories)
               (λ z x. z ≡ w → entryAt x j ≡ entryAt (at hs w noEntries) j)
               (λ e.
               each-entry (at ks k noEntries) (g .index) (g .view) inside within (h .0 .entries k)
               (λ i v. i ≡ j → v ≡ entryAt (at hs w noEntries) j)
-              (λ f. absurd (apart (subst (λ (z : ℕ). has (g .writers) z ≡ true) e named) (sym f)))
+              (λ f. absurd (apart (subst (λ (z : ℕ). has (g .recipients) z ≡ true) e named) (sym f)))
               (λ i f q. subst (λ (z : ℕ). entryAt (at ks z noEntries) i ≡ entryAt (at hs w noEntries) j) (sym e) (ap (entryAt (at ks w noEntries)) q ∙ h .1))
               j
               refl)
@@ -82,13 +82,13 @@ module _ (g : Agreement) where
         hs
         (long, refl) .1
 
-    turn : (ks : List History) → Long ks → (w : ℕ) → has (g .writers) w ≡ true → (k : ℕ) → suc k ≤ 8
+    turn : (ks : List History) → Long ks → (w : ℕ) → has (g .recipients) w ≡ true → (k : ℕ) → suc k ≤ 8
         → (w ≤ k → entryAt (at ks w noEntries) (g .index) ≡ g .view)
         → (w ≤ k) ⊎ (w ≡ suc k)
         → entryAt (at (writtenIn g (suc k) ks) w noEntries) (g .index) ≡ g .view
     unfolding writtenIn
     turn ks long w named k u before place =
-        by-pick (λ (xs : List History). entryAt (at xs w noEntries) (g .index) ≡ g .view) (has (g .writers) (suc k)) _ ks
+        by-pick (λ (xs : List History). entryAt (at xs w noEntries) (g .index) ≡ g .view) (has (g .recipients) (suc k)) _ ks
         (λ also.
         each-history ks (suc k) (page ks (suc k)) (record { low = omega arith; high = u }) (long .histories)
         (λ z x. z ≡ w → entryAt x (g .index) ≡ g .view)
@@ -102,9 +102,9 @@ module _ (g : Agreement) where
         (λ z f e. subst (λ (y : ℕ). entryAt (at ks y noEntries) (g .index) ≡ g .view) (sym e) (before (⊎-elim (λ b. b) (λ same. absurd (f (e ∙ same))) place)))
         w
         refl)
-        (λ un. before (⊎-elim (λ b. b) (λ same. true-is-not-false (sym named ∙ ap (has (g .writers)) same ∙ un)) place))
+        (λ un. before (⊎-elim (λ b. b) (λ same. true-is-not-false (sym named ∙ ap (has (g .recipients)) same ∙ un)) place))
 
-    written-upto : (hs : List History) → Long hs → (w : ℕ) → has (g .writers) w ≡ true → (k : ℕ) → 1 ≤ w → w ≤ k → k ≤ 8
+    written-upto : (hs : List History) → Long hs → (w : ℕ) → has (g .recipients) w ≡ true → (k : ℕ) → 1 ≤ w → w ≤ k → k ≤ 8
         → entryAt (at (eachUpTo k (writtenIn g) hs) w noEntries) (g .index) ≡ g .view
     unfolding eachUpTo
     written-upto hs long w named zero l u h = absurd (omega arith)
@@ -114,6 +114,6 @@ module _ (g : Agreement) where
         (by-number w (suc k) inr (λ f. inl (omega arith)))
 
     -- a writer gets the view
-    pub written-entry : (hs : List History) → Long hs → (w : ℕ) → Numbered w → has (g .writers) w ≡ true
+    pub written-entry : (hs : List History) → Long hs → (w : ℕ) → Numbered w → has (g .recipients) w ≡ true
         → entryAt (at (eachUpTo 8 (writtenIn g) hs) w noEntries) (g .index) ≡ g .view
     written-entry hs long w number named = written-upto hs long w named 8 (number .low) (number .high) (omega arith)

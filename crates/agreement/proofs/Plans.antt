@@ -112,7 +112,7 @@ module _ (s : System) (acc : List Acceptance) (r : Reached s acc) (p : ℕ) (num
       → ((u : ℕ) → (v* ≡ 0 → ⊥) → has a u ≡ true → accepted acc u v* o ≡ true)
       → ((v* ≡ 0 → ⊥) → leastOf v .0 ≡ p → v* ≡ v)
       → Change s p (assigned (processAt s p) v (processAt s p .next) (index o) v* a) acc acc
-  unfolding assigned pendingAt
+  unfolding pendingAt
   change-assigned v o v* a later marks leads =
       change-without _ (r .shape .pending p) (r .shape .entries p) later
       (record { marks = marks; leads = leads; entry-own = r .own p .entry-own; entry-agreed = r .own p .entry-agreed })
@@ -122,7 +122,7 @@ module _ (s : System) (acc : List Acceptance) (r : Reached s acc) (p : ℕ) (num
 
   -- ---- first guarded command
   pub report-planned : (n v : ℕ) → Planned s p acc acc (reportPlan n p v (processAt s p))
-  unfolding reportPlan assigned
+  unfolding reportPlan
   report-planned n v =
       by-pick (Planned s p acc acc) (within n v && has v p) _ _
       (λ named.
@@ -142,7 +142,7 @@ module _ (s : System) (acc : List Acceptance) (r : Reached s acc) (p : ℕ) (num
   -- ---- second guarded command: Acc
   pub committing-planned : (a : ℕ) → ((u : ℕ) → (processAt s p .proposal ≡ 0 → ⊥) → has a u ≡ true → accepted acc u (processAt s p .proposal) (processAt s p .propout .0) ≡ true)
       → Planned s p acc acc (committingPlan (withAcks (processAt s p) a))
-  unfolding committingPlan assigned
+  unfolding committingPlan
   committing-planned a marks =
       by-pick (Planned s p acc acc) (not (eqb (processAt s p .proposal) 0) && subset (processAt s p .proposal) a) _ _
       (λ whole.
@@ -212,7 +212,7 @@ module _ (s : System) (acc : List Acceptance) (r : Reached s acc) (p : ℕ) (num
       (λ j k. inl refl))
 
   retry-planned : (q old new : ℕ) → old < new → Planned s p acc acc (messagePlan q p (processAt s p) (Retry (index old) (index new)))
-  unfolding messagePlan assigned
+  unfolding messagePlan
   retry-planned q old new up =
       by-pick (Planned s p acc acc) (eqb (processAt s p .propout .0) old && eqb (leastOf (processAt s p .view) .0) p) _ _
       (λ acted.
@@ -227,7 +227,7 @@ module _ (s : System) (acc : List Acceptance) (r : Reached s acc) (p : ℕ) (num
       (λ ignored. planned-quietly s p acc acc _ (change-assigned (processAt s p .view) (processAt s p .propout .0) (processAt s p .proposal) (processAt s p .acks) (later-equal (processAt s p) _ refl refl) (r .own p .marks) (r .own p .leads)))
 
   acc-planned : (q i : ℕ) → Numbered q → Answered acc q (processAt s p) i → Planned s p acc acc (messagePlan q p (processAt s p) (Acc (index i)))
-  unfolding messagePlan assigned
+  unfolding messagePlan
   acc-planned q i from honest =
       by-pick (λ (x : Process). Planned s p acc acc (committingPlan x)) (eqb (processAt s p .propout .0) i) _ _
       (λ present.
@@ -270,7 +270,7 @@ module _ (s : System) (acc : List Acceptance) (r : Reached s acc) (p : ℕ) (num
     accepting = withNext (withPending (processAt s p) q Nothing) (i + 1)
 
     change-accepting : Change s p accepting acc now
-    unfolding assigned withPending pendingAt
+    unfolding withPending pendingAt
     change-accepting =
         record {
           number = number;
@@ -302,7 +302,7 @@ module _ (s : System) (acc : List Acceptance) (r : Reached s acc) (p : ℕ) (num
 
     -- the proposer's PropOut and v* are as they were
     proposer : (k : ℕ) → (processAt (withProcess s p accepting) k .propout ≡ processAt s k .propout) × (processAt (withProcess s p accepting) k .proposal ≡ processAt s k .proposal)
-    unfolding assigned withPending
+    unfolding withPending
     proposer =
         each-process s (r .shape) p number accepting (λ k y. (y .propout ≡ processAt s k .propout) × (y .proposal ≡ processAt s k .proposal)) (refl, refl) (λ k. (refl, refl))
 

@@ -20,7 +20,7 @@ use Rattle.channel.specs.declared.Front.the-variants.{Waiting}
 use Rattle.channel.specs.Channel.{emptyChannel, waiting, frontOf, front}
 use Rattle.system.specs.declared.System.{System}
 use Rattle.system.specs.Process.{entryAt, withEntry, pendingAt}
-use Rattle.system.specs.System.{noProcess, emptyRow, processAt, rowAt, channelTo, channelAt}
+use Rattle.system.specs.System.{noProcess, processAt, channelNumber, channelAt}
 use Rattle.system.specs.Fresh.{freshProcess, freshSystem}
 use Rattle.sound.specs.Sound.{every, soundProposal, soundMessage, soundPending, soundChannel, soundHistory, soundFields, soundProcess, soundChannelAt, soundAt, soundSystem}
 use Rattle.step.specs.declared.Step.{Step}
@@ -34,7 +34,7 @@ use Rattle.agreement.proofs.Steps.{run-reached}
 
 -- the fresh systems of 1 to 8, computed
 fresh-sound : (n : ℕ) → isOneOf 8 n ≡ true → soundSystem (freshSystem n) ≡ true
-unfolding pick allUpTo at put has within everyone emptyChannel waiting entryAt withEntry pendingAt noProcess emptyRow processAt rowAt channelTo channelAt freshProcess freshSystem every soundProposal soundMessage soundPending soundChannel soundHistory soundFields soundProcess soundChannelAt soundAt soundSystem
+unfolding pick allUpTo at put has within everyone emptyChannel waiting entryAt withEntry pendingAt noProcess processAt channelNumber channelAt freshProcess freshSystem every soundProposal soundMessage soundPending soundChannel soundHistory soundFields soundProcess soundChannelAt soundAt soundSystem
 fresh-sound n e =
     let b = one-of 8 n e in
     let back : suc (n - 1) ≡ n = omega arith in

@@ -22,7 +22,7 @@ use Rattle.system.specs.declared.Pending.the-variants.{Nothing, Proposal}
 use Rattle.system.specs.declared.Process.{Process}
 use Rattle.system.specs.declared.System.{System}
 use Rattle.system.specs.Process.{entryAt, withEntry, pendingAt, withPending}
-use Rattle.system.specs.System.{processAt, withProcess, withRow, channelAt, withChannel, broadcasted}
+use Rattle.system.specs.System.{processAt, withProcess, channelAt, withChannel, broadcasted}
 use Rattle.sound.specs.Sound.{soundProposal, soundMessage, soundPending}
 use Rattle.plan.specs.declared.Plan.{Plan}
 use Rattle.plan.specs.Fields.{index, assigned, withNext, withHistory}
@@ -90,7 +90,7 @@ module _ (s : System) (down : ℕ → Bool) where
       → (1 ≤ q → q ≤ s .n → 1 ≤ p → p ≤ s .n → SoundChannel (s .n) (down p) q p c)
       → Way s down t
       → Way s down (withChannel t q p c)
-  unfolding processAt withChannel withRow
+  unfolding processAt withChannel
   way-with t q p from to c long sound w =
       record {
         shape = shape-channel t (w .shape) q p from to c long;
@@ -234,7 +234,7 @@ module _ (s : System) (g : Good s) (p : ℕ) (low : 1 ≤ p) (high : p ≤ s .n)
       → (o .0 ≡ 1 → v* ≡ 0)
       → ((o .0 ≡ 1 → ⊥) → has v* p ≡ true)
       → Fit s p (assigned x v k o v* a)
-  unfolding assigned pendingAt
+  unfolding pendingAt
   assigned-fit v k o v* a kl kh ol oh iv iv* ia own none proposed =
       record {
         sound =
@@ -289,7 +289,7 @@ module _ (s : System) (g : Good s) (p : ℕ) (low : 1 ≤ p) (high : p ≤ s .n)
   same-fit = record { sound = now; pending = g .shape .pending p; entries = g .shape .entries p; crashed = refl }
 
   committing-sound : (a : ℕ) → within (s .n) a ≡ true → SoundPlan s p (committingPlan (assigned x (x .view) (x .next) (x .propout) (x .proposal) a))
-  unfolding committingPlan assigned
+  unfolding committingPlan
   committing-sound a inside =
       by-pick (SoundPlan s p) (not (eqb (x .proposal) 0) && subset (x .proposal) a) _ _
       (λ whole.
@@ -301,7 +301,6 @@ module _ (s : System) (g : Good s) (p : ℕ) (low : 1 ≤ p) (high : p ≤ s .n)
       (λ part. sound-quietly s p _ (kept-fit (x .propout .0) a (now .fields .propout-low) (now .fields .propout-high) inside (now .fields .none-proposed) (now .fields .own-proposed)))
 
   committing-same : SoundPlan s p (committingPlan x)
-  unfolding assigned
   committing-same = committing-sound (x .acks) (now .fields .acks-inside)
 
   pending-fit : (q : ℕ) (new : Pending) → Numbered q → soundPending (s .n) q p new ≡ true → Fit s p (withPending x q new)
@@ -367,7 +366,7 @@ module _ (s : System) (g : Good s) (p : ℕ) (low : 1 ≤ p) (high : p ≤ s .n)
 
   -- Next rises past the accepted index
   accepting-fit : (q i : ℕ) → Numbered q → 2 ≤ i → i ≤ 32 → Fit s p (assigned (withPending x q Nothing) (x .view) (index (i + 1)) (x .propout) (x .proposal) (x .acks))
-  unfolding assigned pendingAt
+  unfolding pendingAt
   accepting-fit q i to l h =
       let f = pending-fit q Nothing to (nothing-is-sound (s .n) q p) in
       record {

@@ -24,7 +24,7 @@ entryOf s p i = entryAt (processAt s p .history) i
 pub record Agreement : Type 0 where
   pub view : ℕ
   pub index : ℕ
-  pub writers : ℕ
+  pub recipients : ℕ
 
 -- each process's history, the index of the last agreement made, and those made
 pub record Book : Type 0 where
@@ -56,11 +56,11 @@ admits acc b g =
     && leb (b .last) (g .index)
     && allUpTo 8 (λ u. not (has (g .view) u) || not (isWritten (bookEntry b u (g .index))))
     && apartFrom g (b .made)
-    && not (allUpTo 8 (λ u. not (has (g .writers) u)))
-    && allUpTo 8 (λ u. not (has (g .writers) u) || has (g .view) u)
+    && not (allUpTo 8 (λ u. not (has (g .recipients) u)))
+    && allUpTo 8 (λ u. not (has (g .recipients) u) || has (g .view) u)
 
 unfoldable pub writtenIn : Agreement → ℕ → List History → List History
-writtenIn g u hs = pick (has (g .writers) u) (put hs u (withEntry (at hs u noEntries) (g .index) (g .view))) hs
+writtenIn g u hs = pick (has (g .recipients) u) (put hs u (withEntry (at hs u noEntries) (g .index) (g .view))) hs
 
 -- "Those get the view there, and nothing else changes."
 unfoldable pub madeIn : Book → Agreement → Book

@@ -1,17 +1,17 @@
 -- What is written into a lent buffer as long as the text is the text; and with that, what each call leaves in the image.
-use Prim.Native.Nat.{ℕ, zero, suc, _+_, _≤_, _<_, min}
+use Prim.Native.Nat.{ℕ, _+_, _≤_, min}
 use mathlib.Core.Path.{_≡_, refl, sym, _∙_, ap, subst}
-use mathlib.Core.Bool.{Bool, true, false, _&&_, not}
+use mathlib.Core.Bool.{Bool, true, false, not}
 use mathlib.Core.List.{List, [], _∷_, _++_, append-nil}
 use native.Mathlib.Decide.{decLe}
 use native.Mathlib.Omega.{arith}
 use native.Mathlib.Nat.{le-of-eq, lt-of-not-le, zero-add, min-eq-left, min-eq-right}
-use borrow.Author.Tests.{eq-eqb, ne-eqb, eqb-true, not-true}
+use borrow.Author.Tests.{eq-eqb, ne-eqb, eqb-true}
 use lib.Dec.{eqb}
-use lib.ListN.{length, take, drop, length-append, take-append-drop, drop-of-length-le}
+use lib.ListN.{length, take, drop, take-append-drop, drop-of-length-le}
 use lib.Seq.{take-all, length-take-le}
-use Rattle.view.specs.Logic.{pick, isOneOf}
-use Rattle.view.proofs.Laws.{and-left, and-right, by-pick}
+use Rattle.view.specs.Logic.{pick}
+use Rattle.view.proofs.Laws.{and-left}
 use Rattle.system.specs.declared.System.{System}
 use Rattle.system.specs.declared.Outcome.{Outcome}
 use Rattle.system.specs.Fresh.{freshOf}
@@ -21,11 +21,11 @@ use Rattle.step.specs.Step.{stepped}
 use Rattle.agreement.proofs.Frames.{Shape}
 use Rattle.agreement.proofs.Beginning.{start-reached}
 use Rattle.agreement.proofs.SoundSteps.{step-sound}
-use Rattle.print.specs.Page.{Page, page, typed, typedByte}
-use Rattle.print.proofs.Laws.{Whole, whole, same-room, in-turn, fits-in, no-room}
+use Rattle.print.specs.Page.{Page, page, typed}
+use Rattle.print.proofs.Laws.{whole, same-room, in-turn, fits-in, no-room}
 use Rattle.capi.specs.Image.{encoded, decoded, damaged}
-use Rattle.capi.specs.Calls.{Answer, answer, readable, landed, stepOn, freshOn, printedOn}
-use Rattle.capi.proofs.Image.{image-length, image-good, image-back, read-shape}
+use Rattle.capi.specs.Calls.{answer, readable, landed, stepOn, freshOn, printedOn}
+use Rattle.capi.proofs.Image.{image-length, read-shape}
 
 -- ---- shapes
 unsound-same : (s : System) (o : Step) → soundSystem s ≡ false → stepped s o .system ≡ s
@@ -49,7 +49,7 @@ written b c t n same e =
     sym (take-all n c (omega (arith, same-room c b n 0 t e, w .count))) ∙ w .text
 
 -- ---- the steps
-long-enough : (b : List ℕ) → readable b ≡ true → length b ≡ 2097
+pub long-enough : (b : List ℕ) → readable b ≡ true → length b ≡ 2097
 unfolding readable
 long-enough b e = eqb-true (length b) 2097 (and-left (eqb (length b) 2097) (not (damaged b)) e)
 

@@ -1,13 +1,14 @@
 -- The image of a system of the right shape has 2,097 bytes, is not damaged, and is read back as that very system; and whatever is
 -- read from bytes has the right shape.
-use Prim.Native.Nat.{ℕ, zero, suc, _+_, _*_}
+use Prim.Native.Nat.{ℕ, zero, suc, _+_, _*_, _/_, _%_, _≤_, _<_}
 use mathlib.Core.Path.{_≡_, refl, sym, _∙_, ap, subst}
-use mathlib.Core.Bool.{Bool, true, false, _||_}
+use mathlib.Core.Bool.{Bool, true, false}
 use mathlib.Core.List.{List, [], _∷_, _++_, append-assoc, append-nil}
+use native.Mathlib.Nat.{add-comm, mul-suc, mul-zero, div-add-mod, mod-lt, lt-of-not-le}
+use native.Mathlib.Decide.{decLe}
 use native.Mathlib.Omega.{arith}
-use native.Mathlib.Nat.{add-comm, mul-suc, mul-zero}
 use lib.Dec.{eqb, ltb}
-use lib.ListN.{length, getD, drop, length-append}
+use lib.ListN.{length, getD, drop, length-append, List·getD-eq-default}
 use lib.Seq.{drop-at, getD-at}
 use Rattle.view.specs.Logic.{pick, at}
 use Rattle.view.proofs.Laws.{Each}
@@ -20,16 +21,15 @@ use Rattle.system.specs.declared.Pending.{Pending}
 use Rattle.system.specs.declared.Pending.the-variants.{Nothing, Proposal}
 use Rattle.system.specs.declared.PendingSlot.{PendingSlot}
 use Rattle.system.specs.declared.Process.{Process}
-use Rattle.system.specs.declared.Row.{Row}
 use Rattle.system.specs.declared.System.{System}
-use Rattle.system.specs.System.{noProcess, emptyRow, processAt, rowAt, channelTo, channelAt}
-use Rattle.system.proofs.Laws.{empty-row}
+use Rattle.system.specs.System.{noProcess, processAt, channelNumber, channelAt}
+use Rattle.system.proofs.Laws.{channel-next}
 use Rattle.agreement.proofs.Frames.{Shape}
 use Rattle.agreement.proofs.Messages.{empty-long}
-use Rattle.capi.specs.Image.{joined, messageBytes, slotBytes, channelBytes, rowBytes, pendingBytes, recordBytes, fieldBytes, processBytes, encoded, parts, byte, messageOf, slotIn, channelIn, rowIn, pendingOf, recordIn, historyIn, processIn, decoded, anyPart, tagAbove, damagedProcess, damagedChannel, damagedRow, damaged}
+use Rattle.capi.specs.Image.{joined, messageBytes, slotBytes, channelBytes, pendingBytes, recordBytes, fieldBytes, processBytes, encoded, parts, byte, messageOf, slotIn, channelIn, pendingOf, recordIn, historyIn, processIn, decoded, anyPart, tagAbove, damagedProcess, damagedChannel, damaged}
 use Rattle.capi.proofs.Laws.{parts-length}
 
--- ---- parts in a row
+-- ---- parts one after the other
 -- x is written in w bytes, which are read back, whatever follows them, and are not damaged
 pub record Part {A : Type 0} (w : ℕ) (write : A → List ℕ) (read : List ℕ → A) (bad : List ℕ → Bool) (x : A) : Type 0 where
   pub long : length (write x) ≡ w
@@ -66,19 +66,19 @@ module _ {A : Type 0} (w : ℕ) (write : A → List ℕ) (read : List ℕ → A)
         joined-good xs rest (e .1),
       )
 
--- eight of them
-pub record Eight {A : Type 0} (w : ℕ) (write : A → List ℕ) (read : List ℕ → A) (bad : List ℕ → Bool) (xs : List A) : Type 0 where
-  pub long : length (joined write xs) ≡ w * 8
-  pub back : (rest : List ℕ) → parts 8 w read (joined write xs ++ rest) ≡ xs
-  pub good : (rest : List ℕ) → anyPart 8 w bad (joined write xs ++ rest) ≡ false
+-- n of them
+pub record Parts {A : Type 0} (n w : ℕ) (write : A → List ℕ) (read : List ℕ → A) (bad : List ℕ → Bool) (xs : List A) : Type 0 where
+  pub long : length (joined write xs) ≡ w * n
+  pub back : (rest : List ℕ) → parts n w read (joined write xs ++ rest) ≡ xs
+  pub good : (rest : List ℕ) → anyPart n w bad (joined write xs ++ rest) ≡ false
 
-eight : {A : Type 0} (w : ℕ) (write : A → List ℕ) (read : List ℕ → A) (bad : List ℕ → Bool) (xs : List A) → length xs ≡ 8
-    → Each (Part w write read bad) xs → Eight w write read bad xs
-eight w write read bad xs long e =
+all-parts : {A : Type 0} (n w : ℕ) (write : A → List ℕ) (read : List ℕ → A) (bad : List ℕ → Bool) (xs : List A) → length xs ≡ n
+    → Each (Part w write read bad) xs → Parts n w write read bad xs
+all-parts n w write read bad xs long e =
     record {
-      long = joined-length w write read bad xs e ∙ ap (λ (n : ℕ). w * n) long;
-      back = λ rest. subst (λ (n : ℕ). parts n w read (joined write xs ++ rest) ≡ xs) long (joined-back w write read bad xs rest e);
-      good = λ rest. subst (λ (n : ℕ). anyPart n w bad (joined write xs ++ rest) ≡ false) long (joined-good w write read bad xs rest e);
+      long = joined-length w write read bad xs e ∙ ap (λ (m : ℕ). w * m) long;
+      back = λ rest. subst (λ (m : ℕ). parts m w read (joined write xs ++ rest) ≡ xs) long (joined-back w write read bad xs rest e);
+      good = λ rest. subst (λ (m : ℕ). anyPart m w bad (joined write xs ++ rest) ≡ false) long (joined-good w write read bad xs rest e);
     }
 
 each : {A : Type 0} (P : A → Type 0) → ((x : A) → P x) → (xs : List A) → Each P xs
@@ -119,23 +119,12 @@ slot-part s =
 channel-part : (c : Channel) → length (c .slots) ≡ 8 → Part 25 channelBytes channelIn damagedChannel c
 unfolding channelBytes channelIn damagedChannel
 channel-part c long =
-    let slots = eight 3 slotBytes slotIn (tagAbove 3) (c .slots) long (each _ slot-part (c .slots)) in
+    let slots = all-parts 8 3 slotBytes slotIn (tagAbove 3) (c .slots) long (each _ slot-part (c .slots)) in
     record {
       long = length-append (joined slotBytes (c .slots)) (c .len ∷ []) ∙ rw (slots .long);
       back = λ rest. rw (append-assoc (joined slotBytes (c .slots)) (c .len ∷ []) rest, slots .back (c .len ∷ rest), getD-at (joined slotBytes (c .slots)) (c .len) rest 0 24 (slots .long));
       good = λ rest. rw (append-assoc (joined slotBytes (c .slots)) (c .len ∷ []) rest) (slots .good (c .len ∷ rest));
     }
-
--- ---- a row
-row-part : (r : Row) → length (r .channels) ≡ 8 → Each (λ c. length (c .slots) ≡ 8) (r .channels) → Part 200 rowBytes rowIn damagedRow r
-unfolding rowBytes rowIn damagedRow
-row-part r long e =
-    let channels = eight 25 channelBytes channelIn damagedChannel (r .channels) long (made (r .channels) e) in
-    record { long = channels .long; back = λ rest. rw (channels .back rest); good = channels .good }
-  where
-    made : (l : List Channel) → Each (λ c. length (c .slots) ≡ 8) l → Each (Part 25 channelBytes channelIn damagedChannel) l
-    made [] e = tt
-    made (c ∷ l) e = (channel-part c (e .0), made l (e .1))
 
 -- ---- a process
 record-back : (x : Pending) (rest : List ℕ) → pendingOf (byte 0 (pendingBytes x ++ rest)) (byte 1 (pendingBytes x ++ rest)) (byte 2 (pendingBytes x ++ rest)) ≡ x
@@ -182,8 +171,8 @@ unfolding processBytes
 in-order p rest = simp append-assoc
 
 module _ (p : Process) (long : length (p .pending) ≡ 8) (entries : length (p .history .entries) ≡ 32) where
-  records : Eight 3 recordBytes recordIn (tagAbove 1) (p .pending)
-  records = eight 3 recordBytes recordIn (tagAbove 1) (p .pending) long (each _ record-part (p .pending))
+  records : Parts 8 3 recordBytes recordIn (tagAbove 1) (p .pending)
+  records = all-parts 8 3 recordBytes recordIn (tagAbove 1) (p .pending) long (each _ record-part (p .pending))
 
   process-long : length (processBytes p) ≡ 62
   unfolding processBytes fieldBytes
@@ -220,42 +209,50 @@ from-all P [] d h = tt
 from-all P (x ∷ l) d h = (h 0, from-all P l d (λ k. h (suc k)))
 
 module _ (s : System) (shape : Shape s) where
-  rows : Eight 200 rowBytes rowIn damagedRow (s .rows)
-  unfolding rowAt channelAt channelTo at
-  rows =
-      eight 200 rowBytes rowIn damagedRow (s .rows) (shape .rows)
-      (from-all _ (s .rows) emptyRow
-      (λ q.
-      let r = getD (s .rows) q emptyRow in
-      row-part r (shape .channels (suc q)) (from-all (λ c. length (c .slots) ≡ 8) (r .channels) emptyChannel (λ p. shape .slots (suc q) (suc p)))))
+  slots-of : (k : ℕ) → length (getD (s .channels) k emptyChannel .slots) ≡ 8
+  slots-of k = by (decLe 64 k)
+    where
+      by : Dec (64 ≤ k) → length (getD (s .channels) k emptyChannel .slots) ≡ 8
+      by (yes h) = rw (List·getD-eq-default (s .channels) emptyChannel {n = k} (omega (arith, shape .channels))) empty-long
+      by (no h) =
+          let split : 8 * (k / 8) + k % 8 ≡ k = div-add-mod k 8 in
+          let low : k % 8 < 8 = mod-lt k (omega arith) in
+          let high : k / 8 < 8 = omega (arith, lt-of-not-le h) in
+          subst (λ (m : ℕ). length (getD (s .channels) m emptyChannel .slots) ≡ 8) split
+          (rw (channel-next s (k / 8) (k % 8) emptyChannel high low (shape .channels)) (shape .slots (k / 8 + 1) (k % 8 + 1)))
 
-  processes : Eight 62 processBytes processIn damagedProcess (s .processes)
+  channels : Parts 64 25 channelBytes channelIn damagedChannel (s .channels)
+  channels =
+      all-parts 64 25 channelBytes channelIn damagedChannel (s .channels) (shape .channels)
+      (from-all _ (s .channels) emptyChannel (λ k. channel-part (getD (s .channels) k emptyChannel) (slots-of k)))
+
+  processes : Parts 8 62 processBytes processIn damagedProcess (s .processes)
   unfolding processAt at
   processes =
-      eight 62 processBytes processIn damagedProcess (s .processes) (shape .processes)
+      all-parts 8 62 processBytes processIn damagedProcess (s .processes) (shape .processes)
       (from-all _ (s .processes) noProcess (λ p. process-part (getD (s .processes) p noProcess) (shape .pending (suc p)) (shape .entries (suc p))))
 
-  rows-at-end : (R : List ℕ → Type 0) → R (joined rowBytes (s .rows) ++ []) → R (drop 496 (joined processBytes (s .processes) ++ joined rowBytes (s .rows)))
-  rows-at-end R r =
+  channels-at-end : (R : List ℕ → Type 0) → R (joined channelBytes (s .channels) ++ []) → R (drop 496 (joined processBytes (s .processes) ++ joined channelBytes (s .channels)))
+  channels-at-end R r =
       subst R
-      (append-nil (joined rowBytes (s .rows)) ∙ sym (drop-at (joined processBytes (s .processes)) (joined rowBytes (s .rows)) 496 (processes .long)))
+      (append-nil (joined channelBytes (s .channels)) ∙ sym (drop-at (joined processBytes (s .processes)) (joined channelBytes (s .channels)) 496 (processes .long)))
       r
 
   pub image-length : length (encoded s) ≡ 2097
   unfolding encoded
   image-length =
-      length-append ((s .n ∷ []) ++ joined processBytes (s .processes)) (joined rowBytes (s .rows)) ∙ rw (processes .long, rows .long)
+      length-append ((s .n ∷ []) ++ joined processBytes (s .processes)) (joined channelBytes (s .channels)) ∙ rw (processes .long, channels .long)
 
   pub image-good : damaged (encoded s) ≡ false
   unfolding encoded damaged
   image-good =
-      rw (processes .good (joined rowBytes (s .rows)))
-      (rows-at-end (λ l. anyPart 8 200 damagedRow l ≡ false) (rows .good []))
+      rw (processes .good (joined channelBytes (s .channels)))
+      (channels-at-end (λ l. anyPart 64 25 damagedChannel l ≡ false) (channels .good []))
 
   pub image-back : decoded (encoded s) ≡ s
   unfolding encoded decoded
   image-back =
-      rw (processes .back (joined rowBytes (s .rows)), rows-at-end (λ l. parts 8 200 rowIn l ≡ s .rows) (rows .back []))
+      rw (processes .back (joined channelBytes (s .channels)), channels-at-end (λ l. parts 64 25 channelIn l ≡ s .channels) (channels .back []))
 
 -- ---- whatever is read has the right shape
 read-all : {A : Type 0} (P : A → Type 0) (d : A) (f : List ℕ → A) → P d → ((b : List ℕ) → P (f b)) → (n w : ℕ) (b : List ℕ) (k : ℕ) → P (at (parts n w f b) k d)
@@ -265,20 +262,9 @@ read-all P d f none h zero w b (suc k) = none
 read-all P d f none h (suc n) w b (suc zero) = h b
 read-all P d f none h (suc n) w b (suc (suc k)) = read-all P d f none h n w (drop w b) (suc k)
 
-row-long : (b : List ℕ) → length (rowIn b .channels) ≡ 8
-unfolding rowIn
-row-long b = parts-length 8 25 channelIn b
-
 channel-long : (b : List ℕ) → length (channelIn b .slots) ≡ 8
 unfolding channelIn
 channel-long b = parts-length 8 3 slotIn b
-
-slots-long : (b : List ℕ) (p : ℕ) → length (channelTo (rowIn b) p .slots) ≡ 8
-unfolding rowIn channelTo
-slots-long b p = read-all (λ c. length (c .slots) ≡ 8) emptyChannel channelIn empty-long channel-long 8 25 b p
-
-no-slots : (p : ℕ) → length (channelTo emptyRow p .slots) ≡ 8
-no-slots p = rw (empty-row p) empty-long
 
 pending-long : (b : List ℕ) → length (processIn b .pending) ≡ 8
 unfolding processIn
@@ -289,13 +275,12 @@ unfolding processIn historyIn
 entries-long b = parts-length 32 1 (byte 0) (drop 30 b)
 
 pub read-shape : (b : List ℕ) → Shape (decoded b)
-unfolding decoded rowAt channelAt processAt emptyRow noProcess
+unfolding decoded channelAt processAt noProcess
 read-shape b =
     record {
       processes = parts-length 8 62 processIn (drop 1 b);
-      rows = parts-length 8 200 rowIn (drop 497 b);
-      channels = read-all (λ r. length (r .channels) ≡ 8) emptyRow rowIn refl row-long 8 200 (drop 497 b);
-      slots = λ q p. read-all (λ r. length (channelTo r p .slots) ≡ 8) emptyRow rowIn (no-slots p) (λ c. slots-long c p) 8 200 (drop 497 b) q;
+      channels = parts-length 64 25 channelIn (drop 497 b);
+      slots = λ q p. read-all (λ c. length (c .slots) ≡ 8) emptyChannel channelIn empty-long channel-long 64 25 (drop 497 b) (channelNumber q p);
       pending = read-all (λ x. length (x .pending) ≡ 8) noProcess processIn refl (λ c. pending-long c) 8 62 (drop 1 b);
       entries = read-all (λ x. length (x .history .entries) ≡ 32) noProcess processIn refl (λ c. entries-long c) 8 62 (drop 1 b);
     }

@@ -1,5 +1,5 @@
 -- The image of a system: 2,097 bytes, in which a caller that is no Rattle program keeps it. One byte is n; eight processes of 62
--- bytes follow, and then eight rows of eight channels of 25 bytes. docs/IMAGE.md has the layout as a table.
+-- bytes follow, and then sixty-four channels of 25 bytes. docs/IMAGE.md has the layout as a table.
 use Prim.Native.Nat.{ℕ, zero, suc}
 use mathlib.Core.Bool.{Bool, false, _||_}
 use mathlib.Core.List.{List, [], _∷_, _++_}
@@ -16,7 +16,6 @@ use Rattle.system.specs.declared.Pending.{Pending}
 use Rattle.system.specs.declared.Pending.the-variants.{Nothing, Proposal}
 use Rattle.system.specs.declared.PendingSlot.{PendingSlot}
 use Rattle.system.specs.declared.Process.{Process}
-use Rattle.system.specs.declared.Row.{Row}
 use Rattle.system.specs.declared.System.{System}
 use Rattle.system.specs.Process.{pendingSlot}
 
@@ -38,9 +37,6 @@ slotBytes s = messageBytes (s .message)
 unfoldable pub channelBytes : Channel → List ℕ
 channelBytes c = joined slotBytes (c .slots) ++ (c .len ∷ [])
 
-unfoldable pub rowBytes : Row → List ℕ
-rowBytes r = joined channelBytes (r .channels)
-
 unfoldable pub pendingBytes : Pending → List ℕ
 pendingBytes Nothing = 0 ∷ 0 ∷ 0 ∷ []
 pendingBytes (Proposal v i) = 1 ∷ v ∷ i .0 ∷ []
@@ -55,7 +51,7 @@ unfoldable pub processBytes : Process → List ℕ
 processBytes p = fieldBytes p ++ joined recordBytes (p .pending) ++ p .history .entries
 
 unfoldable pub encoded : System → List ℕ
-encoded s = (s .n ∷ []) ++ joined processBytes (s .processes) ++ joined rowBytes (s .rows)
+encoded s = (s .n ∷ []) ++ joined processBytes (s .processes) ++ joined channelBytes (s .channels)
 
 -- ---- from an image to the system: every list of bytes is read as one
 -- n parts, one after the other, each of w bytes
@@ -77,9 +73,6 @@ slotIn b = slot (messageOf (byte 0 b) (byte 1 b) (byte 2 b))
 
 unfoldable pub channelIn : List ℕ → Channel
 channelIn b = record { slots = parts 8 3 slotIn b; len = byte 24 b }
-
-unfoldable pub rowIn : List ℕ → Row
-rowIn b = record { channels = parts 8 25 channelIn b }
 
 unfoldable pub pendingOf : ℕ → ℕ → ℕ → Pending
 pendingOf tag x y = pick (eqb tag 0) Nothing (Proposal x (record { 0 = y }))
@@ -105,7 +98,7 @@ processIn b =
 
 unfoldable pub decoded : List ℕ → System
 decoded b =
-    record { n = byte 0 b; processes = parts 8 62 processIn (drop 1 b); rows = parts 8 200 rowIn (drop 497 b) }
+    record { n = byte 0 b; processes = parts 8 62 processIn (drop 1 b); channels = parts 64 25 channelIn (drop 497 b) }
 
 -- ---- which images are damaged
 -- the test holds of one of n parts, each of w bytes
@@ -125,8 +118,5 @@ damagedProcess b = tagAbove 1 b || anyPart 8 3 (tagAbove 1) (drop 6 b)
 unfoldable pub damagedChannel : List ℕ → Bool
 damagedChannel b = anyPart 8 3 (tagAbove 3) b
 
-unfoldable pub damagedRow : List ℕ → Bool
-damagedRow b = anyPart 8 25 damagedChannel b
-
 unfoldable pub damaged : List ℕ → Bool
-damaged b = anyPart 8 62 damagedProcess (drop 1 b) || anyPart 8 200 damagedRow (drop 497 b)
+damaged b = anyPart 8 62 damagedProcess (drop 1 b) || anyPart 64 25 damagedChannel (drop 497 b)

@@ -1,11 +1,11 @@
 // The system as an image in bytes that the caller lends, for programs in C and other languages.
 ghost use mathlib.Core.Path.{_≡_};
-ghost use Prim.Native.Nat.{_≤_};
+ghost use Prim.Native.Nat.{_+_, _*_, _≤_, _<_};
 ghost use mathlib.Core.List.{[], _∷_};
-ghost use lib.ListN.{getD, drop};
+ghost use lib.ListN.{length, getD, drop};
 ghost use Rattle.view.specs.Logic.{pick};
 ghost use Rattle.print.specs.Page.{page, typed};
-ghost use Rattle.capi.specs.Image.{joined, messageBytes, channelBytes, rowBytes, pendingBytes, recordBytes, processBytes, encoded, messageOf, slotIn, channelIn, rowIn, pendingOf, recordIn, historyIn, processIn, decoded, anyPart, tagAbove, damagedProcess, damagedRow};
+ghost use Rattle.capi.specs.Image.{messageBytes, channelBytes, pendingBytes, processBytes, encoded, byte, messageOf, channelIn, pendingOf, historyIn, processIn, decoded, anyPart, tagAbove, damagedProcess, damaged};
 ghost use Rattle.capi.specs.Calls.{answer, readable, stepOn, freshOn, printedOn};
 ghost use Rattle.step.specs.declared.Step.{Step};
 ghost use Rattle.run.specs.Output.{output};
@@ -13,15 +13,12 @@ use channel::Channel;
 use channel::Message;
 use channel::Slot;
 use plan::UNSOUND;
-use print::put_byte;
-use print::put_text;
 use run::run_sheet;
 use step::Step;
 use system::History;
 use system::Pending;
 use system::PendingSlot;
 use system::Process;
-use system::Row;
 use system::System;
 use view::GroupIndex;
 use view::ProcessId;
@@ -32,90 +29,83 @@ pub const IMAGE: usize = 2_097;
 
 // ---- from an image to the system
 
+// Each function below reads from a place on, where the image has all the bytes that it reads.
 fn byte_at(image: &[u8], at: usize) -> u8
+    requires { ⌜ at < length (now image) ⌝ }
     ensures { λ r. ⌜ r ≡ getD (now (image .entry)) at 0 ⌝ }
 {
-    if at < image.len() { image[at] } else { 0 }
+    image[at]
 }
 
-fn message_of(tag: u8, x: u8, y: u8) -> Message
-    ensures { λ r. ⌜ r ≡ messageOf tag x y ⌝ }
+// Of count bytes, each step after the one before, one is above most.
+fn any_above(image: &[u8], at: usize, count: usize, step: usize, most: u8) -> bool
+    requires { ⌜ (0 < step) × (at + step * count ≤ length (now image)) ⌝ }
+    ensures { λ r. ⌜ r ≡ anyPart count step (tagAbove most) (drop at (now (image .entry))) ⌝ }
 {
-    if tag == 0 {
-        Message::Propose(x, GroupIndex(y))
-    } else if tag == 1 {
-        Message::Retry(GroupIndex(x), GroupIndex(y))
-    } else if tag == 2 {
-        Message::Acc(GroupIndex(x))
-    } else {
-        Message::Commit(x, GroupIndex(y))
+    let mut found = false;
+    let mut i: usize = 0;
+    while i < count {
+        found = or(found, most < byte_at(image, at + step * i));
+        i += 1;
     }
+    found
 }
 
-fn read_slot(image: &[u8], at: usize) -> Slot
-    requires { ⌜ at ≤ 4096 ⌝ }
-    ensures { λ r. ⌜ r ≡ slotIn (drop at (now (image .entry))) ⌝ }
+// Three bytes: a tag and its two operands, or three fields.
+struct Three(u8, u8, u8);
+
+fn read_three(image: &[u8], at: usize) -> Three
+    requires { ⌜ at + 3 ≤ length (now image) ⌝ }
+    ensures { λ r. ⌜ (r .0 ≡ byte 0 (drop at (now (image .entry)))) × (r .1 ≡ byte 1 (drop at (now (image .entry)))) × (r .2 ≡ byte 2 (drop at (now (image .entry)))) ⌝ }
 {
-    let message = message_of(
+    Three(
         byte_at(image, at),
         byte_at(image, at + 1),
         byte_at(image, at + 2),
-    );
-    Slot { message }
+    )
+}
+
+fn message_of(b: Three) -> Message
+    ensures { λ r. ⌜ r ≡ messageOf (b .0) (b .1) (b .2) ⌝ }
+{
+    if b.0 == 0 {
+        Message::Propose(b.1, GroupIndex(b.2))
+    } else if b.0 == 1 {
+        Message::Retry(GroupIndex(b.1), GroupIndex(b.2))
+    } else if b.0 == 2 {
+        Message::Acc(GroupIndex(b.1))
+    } else {
+        Message::Commit(b.1, GroupIndex(b.2))
+    }
 }
 
 fn read_channel(image: &[u8], at: usize) -> Channel
-    requires { ⌜ at ≤ 4000 ⌝ }
+    requires { ⌜ at + 25 ≤ length (now image) ⌝ }
     ensures { λ r. ⌜ r ≡ channelIn (drop at (now (image .entry))) ⌝ }
 {
     let mut c = channel::empty();
     let mut i: usize = 0;
     while i < 8 {
-        c.slots[i] = read_slot(image, at + 3 * i);
+        let message = message_of(read_three(image, at + 3 * i));
+        c.slots[i] = Slot { message };
         i += 1;
     }
     c.len = byte_at(image, at + 24);
     c
 }
 
-fn read_row(image: &[u8], at: usize) -> Row
-    requires { ⌜ at ≤ 3000 ⌝ }
-    ensures { λ r. ⌜ r ≡ rowIn (drop at (now (image .entry))) ⌝ }
+fn pending_of(b: Three) -> Pending
+    ensures { λ r. ⌜ r ≡ pendingOf (b .0) (b .1) (b .2) ⌝ }
 {
-    let c = channel::empty();
-    let mut channels = [c; 8];
-    let mut i: usize = 0;
-    while i < 8 {
-        channels[i] = read_channel(image, at + 25 * i);
-        i += 1;
-    }
-    Row { channels }
-}
-
-fn pending_of(tag: u8, x: u8, y: u8) -> Pending
-    ensures { λ r. ⌜ r ≡ pendingOf tag x y ⌝ }
-{
-    if tag == 0 {
+    if b.0 == 0 {
         Pending::Nothing
     } else {
-        Pending::Proposal(x, GroupIndex(y))
+        Pending::Proposal(b.1, GroupIndex(b.2))
     }
-}
-
-fn read_record(image: &[u8], at: usize) -> PendingSlot
-    requires { ⌜ at ≤ 4096 ⌝ }
-    ensures { λ r. ⌜ r ≡ recordIn (drop at (now (image .entry))) ⌝ }
-{
-    let pending = pending_of(
-        byte_at(image, at),
-        byte_at(image, at + 1),
-        byte_at(image, at + 2),
-    );
-    PendingSlot { pending }
 }
 
 fn read_history(image: &[u8], at: usize) -> History
-    requires { ⌜ at ≤ 4000 ⌝ }
+    requires { ⌜ at + 32 ≤ length (now image) ⌝ }
     ensures { λ r. ⌜ r ≡ historyIn (drop at (now (image .entry))) ⌝ }
 {
     let mut entries = [0u8; 32];
@@ -128,73 +118,69 @@ fn read_history(image: &[u8], at: usize) -> History
 }
 
 fn read_process(image: &[u8], at: usize) -> Process
-    requires { ⌜ at ≤ 3000 ⌝ }
+    requires { ⌜ at + 62 ≤ length (now image) ⌝ }
     ensures { λ r. ⌜ r ≡ processIn (drop at (now (image .entry))) ⌝ }
 {
     let slot = PendingSlot {
         pending: Pending::Nothing,
     };
-    let mut pending = [slot; 8];
+    let mut records = [slot; 8];
     let mut i: usize = 0;
     while i < 8 {
-        pending[i] = read_record(image, at + 6 + 3 * i);
+        let pending = pending_of(read_three(image, at + 6 + 3 * i));
+        records[i] = PendingSlot { pending };
         i += 1;
     }
     let history = read_history(image, at + 30);
+    let a = read_three(image, at);
+    let b = read_three(image, at + 3);
     Process {
-        crashed: byte_at(image, at) == 1,
-        view: byte_at(image, at + 1),
-        next: GroupIndex(byte_at(image, at + 2)),
-        propout: GroupIndex(byte_at(image, at + 3)),
-        proposal: byte_at(image, at + 4),
-        acks: byte_at(image, at + 5),
-        pending,
+        crashed: a.0 == 1,
+        view: a.1,
+        next: GroupIndex(a.2),
+        propout: GroupIndex(b.0),
+        proposal: b.1,
+        acks: b.2,
+        pending: records,
         history,
     }
 }
 
+// Many channels are nothing but zeros, as in a fresh system: those stay as they are.
 fn read_system(image: &[u8]) -> System
+    requires { ⌜ length (now image) ≡ 2097 ⌝ }
     ensures { λ r. ⌜ r ≡ decoded (now (image .entry)) ⌝ }
 {
-    let p = read_process(image, 1);
-    let r = read_row(image, 497);
-    let mut processes = [p; 8];
-    let mut rows = [r; 8];
+    let a = system::fresh(0);
+    let mut s = a.system;
     let mut i: usize = 0;
     while i < 8 {
-        processes[i] = read_process(image, 1 + 62 * i);
-        rows[i] = read_row(image, 497 + 200 * i);
+        s.processes[i] = read_process(image, 1 + 62 * i);
         i += 1;
     }
-    let n = byte_at(image, 0);
-    System { n, processes, rows }
+    let mut j: usize = 0;
+    while j < 64 {
+        if any_above(image, 497 + 25 * j, 25, 1, 0) {
+            s.channels[j] = read_channel(image, 497 + 25 * j);
+        }
+        j += 1;
+    }
+    s.n = byte_at(image, 0);
+    s
 }
 
 // ---- which images are damaged
 
-// Of eight parts of three bytes one has a tag above the most that it can be.
-fn any_tag_above(image: &[u8], at: usize, most: u8) -> bool
-    requires { ⌜ at ≤ 4000 ⌝ }
-    ensures { λ r. ⌜ r ≡ anyPart 8 3 (tagAbove most) (drop at (now (image .entry))) ⌝ }
-{
-    let mut found = false;
-    let mut i: usize = 0;
-    while i < 8 {
-        found = or(found, most < byte_at(image, at + 3 * i));
-        i += 1;
-    }
-    found
-}
-
 fn damaged_process(image: &[u8], at: usize) -> bool
-    requires { ⌜ at ≤ 3000 ⌝ }
+    requires { ⌜ at + 62 ≤ length (now image) ⌝ }
     ensures { λ r. ⌜ r ≡ damagedProcess (drop at (now (image .entry))) ⌝ }
 {
-    or(1 < byte_at(image, at), any_tag_above(image, at + 6, 1))
+    or(1 < byte_at(image, at), any_above(image, at + 6, 8, 3, 1))
 }
 
-fn any_damaged_process(image: &[u8]) -> bool
-    ensures { λ r. ⌜ r ≡ anyPart 8 62 damagedProcess (drop 1 (now (image .entry))) ⌝ }
+fn damaged(image: &[u8]) -> bool
+    requires { ⌜ length (now image) ≡ 2097 ⌝ }
+    ensures { λ r. ⌜ r ≡ damaged (now (image .entry)) ⌝ }
 {
     let mut found = false;
     let mut i: usize = 0;
@@ -202,30 +188,10 @@ fn any_damaged_process(image: &[u8]) -> bool
         found = or(found, damaged_process(image, 1 + 62 * i));
         i += 1;
     }
-    found
-}
-
-fn damaged_row(image: &[u8], at: usize) -> bool
-    requires { ⌜ at ≤ 3000 ⌝ }
-    ensures { λ r. ⌜ r ≡ damagedRow (drop at (now (image .entry))) ⌝ }
-{
-    let mut found = false;
-    let mut i: usize = 0;
-    while i < 8 {
-        found = or(found, any_tag_above(image, at + 25 * i, 3));
-        i += 1;
-    }
-    found
-}
-
-fn any_damaged_row(image: &[u8]) -> bool
-    ensures { λ r. ⌜ r ≡ anyPart 8 200 damagedRow (drop 497 (now (image .entry))) ⌝ }
-{
-    let mut found = false;
-    let mut i: usize = 0;
-    while i < 8 {
-        found = or(found, damaged_row(image, 497 + 200 * i));
-        i += 1;
+    let mut j: usize = 0;
+    while j < 64 {
+        found = or(found, any_above(image, 497 + 25 * j, 8, 3, 3));
+        j += 1;
     }
     found
 }
@@ -235,7 +201,7 @@ fn readable(image: &[u8]) -> bool
     ensures { λ r. ⌜ r ≡ readable (now (image .entry)) ⌝ }
 {
     if image.len() == IMAGE {
-        !or(any_damaged_process(image), any_damaged_row(image))
+        !damaged(image)
     } else {
         false
     }
@@ -243,58 +209,54 @@ fn readable(image: &[u8]) -> bool
 
 // ---- from a system to its image
 
-fn put_three(out: &mut [u8], at: usize, x: u8, y: u8, z: u8) -> usize
-    ensures { λ r. ⌜ page (now (out .exit)) r ≡ typed (page (now (out .entry)) at) (x ∷ y ∷ z ∷ []) ⌝ }
+// Each function below writes from a place on, where the image has room for all that it writes.
+fn put(out: &mut [u8], at: usize, x: u8)
+    requires { ⌜ at < length (now out) ⌝ }
+    ensures { λ r. ⌜ page (now (out .exit)) (at + 1) ≡ typed (page (now (out .entry)) at) (x ∷ []) ⌝ }
 {
-    let a = put_byte(out, at, x);
-    let b = put_byte(out, a, y);
-    put_byte(out, b, z)
+    out[at] = x;
 }
 
-fn put_message(out: &mut [u8], at: usize, m: Message) -> usize
-    ensures { λ r. ⌜ page (now (out .exit)) r ≡ typed (page (now (out .entry)) at) (messageBytes m) ⌝ }
+fn put_three(out: &mut [u8], at: usize, b: Three)
+    requires { ⌜ at + 3 ≤ length (now out) ⌝ }
+    ensures { λ r. ⌜ page (now (out .exit)) (at + 3) ≡ typed (page (now (out .entry)) at) (b .0 ∷ b .1 ∷ b .2 ∷ []) ⌝ }
+{
+    put(out, at, b.0);
+    put(out, at + 1, b.1);
+    put(out, at + 2, b.2);
+}
+
+fn message_bytes(m: Message) -> Three
+    ensures { λ r. ⌜ (r .0 ∷ r .1 ∷ r .2 ∷ []) ≡ messageBytes m ⌝ }
 {
     match m {
-        Message::Propose(view, i) => put_three(out, at, 0, view, i.0),
-        Message::Retry(old, new) => put_three(out, at, 1, old.0, new.0),
-        Message::Acc(i) => put_three(out, at, 2, i.0, 0),
-        Message::Commit(view, i) => put_three(out, at, 3, view, i.0),
+        Message::Propose(view, i) => Three(0, view, i.0),
+        Message::Retry(old, new) => Three(1, old.0, new.0),
+        Message::Acc(i) => Three(2, i.0, 0),
+        Message::Commit(view, i) => Three(3, view, i.0),
     }
 }
 
-fn put_channel(out: &mut [u8], at: usize, c: Channel) -> usize
-    ensures { λ r. ⌜ page (now (out .exit)) r ≡ typed (page (now (out .entry)) at) (channelBytes c) ⌝ }
+fn put_channel(out: &mut [u8], at: usize, c: Channel)
+    requires { ⌜ at + 25 ≤ length (now out) ⌝ }
+    ensures { λ r. ⌜ page (now (out .exit)) (at + 25) ≡ typed (page (now (out .entry)) at) (channelBytes c) ⌝ }
 {
-    let mut next = at;
     let mut i: usize = 0;
     while i < 8 {
         let s = c.slots[i];
         let m = s.message;
-        next = put_message(out, next, m);
+        put_three(out, at + 3 * i, message_bytes(m));
         i += 1;
     }
-    put_byte(out, next, c.len)
+    put(out, at + 24, c.len);
 }
 
-fn put_row(out: &mut [u8], at: usize, row: Row) -> usize
-    ensures { λ r. ⌜ page (now (out .exit)) r ≡ typed (page (now (out .entry)) at) (rowBytes row) ⌝ }
-{
-    let mut next = at;
-    let mut i: usize = 0;
-    while i < 8 {
-        let c = row.channels[i];
-        next = put_channel(out, next, c);
-        i += 1;
-    }
-    next
-}
-
-fn put_pending(out: &mut [u8], at: usize, x: Pending) -> usize
-    ensures { λ r. ⌜ page (now (out .exit)) r ≡ typed (page (now (out .entry)) at) (pendingBytes x) ⌝ }
+fn pending_bytes(x: Pending) -> Three
+    ensures { λ r. ⌜ (r .0 ∷ r .1 ∷ r .2 ∷ []) ≡ pendingBytes x ⌝ }
 {
     match x {
-        Pending::Nothing => put_three(out, at, 0, 0, 0),
-        Pending::Proposal(view, i) => put_three(out, at, 1, view, i.0),
+        Pending::Nothing => Three(0, 0, 0),
+        Pending::Proposal(view, i) => Three(1, view, i.0),
     }
 }
 
@@ -304,54 +266,53 @@ fn flag_byte(x: bool) -> u8
     if x { 1 } else { 0 }
 }
 
-fn put_process(out: &mut [u8], at: usize, p: Process) -> usize
-    ensures { λ r. ⌜ page (now (out .exit)) r ≡ typed (page (now (out .entry)) at) (processBytes p) ⌝ }
+fn put_history(out: &mut [u8], at: usize, h: History)
+    requires { ⌜ at + 32 ≤ length (now out) ⌝ }
+    ensures { λ r. ⌜ page (now (out .exit)) (at + 32) ≡ typed (page (now (out .entry)) at) (h .entries) ⌝ }
 {
-    let a = put_three(out, at, flag_byte(p.crashed), p.view, p.next.0);
-    let mut next = put_three(out, a, p.propout.0, p.proposal, p.acks);
+    let mut i: usize = 0;
+    while i < 32 {
+        put(out, at + i, h.entries[i]);
+        i += 1;
+    }
+}
+
+fn put_process(out: &mut [u8], at: usize, p: Process)
+    requires { ⌜ at + 62 ≤ length (now out) ⌝ }
+    ensures { λ r. ⌜ page (now (out .exit)) (at + 62) ≡ typed (page (now (out .entry)) at) (processBytes p) ⌝ }
+{
+    let a = Three(flag_byte(p.crashed), p.view, p.next.0);
+    let b = Three(p.propout.0, p.proposal, p.acks);
+    put_three(out, at, a);
+    put_three(out, at + 3, b);
     let mut i: usize = 0;
     while i < 8 {
         let s = p.pending[i];
         let x = s.pending;
-        next = put_pending(out, next, x);
+        put_three(out, at + 6 + 3 * i, pending_bytes(x));
         i += 1;
     }
-    let entries = p.history.entries;
-    put_text(out, next, &entries)
+    let h = p.history;
+    put_history(out, at + 30, h);
 }
 
-fn put_processes(out: &mut [u8], at: usize, s: System) -> usize
-    ensures { λ r. ⌜ page (now (out .exit)) r ≡ typed (page (now (out .entry)) at) (joined processBytes (s .processes)) ⌝ }
+fn put_system(out: &mut [u8], s: System)
+    requires { ⌜ length (now out) ≡ 2097 ⌝ }
+    ensures { λ r. ⌜ page (now (out .exit)) 2097 ≡ typed (page (now (out .entry)) 0) (encoded s) ⌝ }
 {
-    let mut next = at;
+    put(out, 0, s.n);
     let mut i: usize = 0;
     while i < 8 {
         let p = s.processes[i];
-        next = put_process(out, next, p);
+        put_process(out, 1 + 62 * i, p);
         i += 1;
     }
-    next
-}
-
-fn put_rows(out: &mut [u8], at: usize, s: System) -> usize
-    ensures { λ r. ⌜ page (now (out .exit)) r ≡ typed (page (now (out .entry)) at) (joined rowBytes (s .rows)) ⌝ }
-{
-    let mut next = at;
-    let mut i: usize = 0;
-    while i < 8 {
-        let row = s.rows[i];
-        next = put_row(out, next, row);
-        i += 1;
+    let mut j: usize = 0;
+    while j < 64 {
+        let c = s.channels[j];
+        put_channel(out, 497 + 25 * j, c);
+        j += 1;
     }
-    next
-}
-
-fn put_system(out: &mut [u8], s: System) -> usize
-    ensures { λ r. ⌜ page (now (out .exit)) r ≡ typed (page (now (out .entry)) 0) (encoded s) ⌝ }
-{
-    let a = put_byte(out, 0, s.n);
-    let b = put_processes(out, a, s);
-    put_rows(out, b, s)
 }
 
 // ---- the functions that other languages call

@@ -3,13 +3,13 @@ use mathlib.Core.Path.{_≡_, refl}
 use mathlib.Core.Bool.{true}
 use mathlib.Core.List.{map}
 use Rattle.view.specs.Logic.{pick, allUpTo, eachUpTo, at, put}
-use Rattle.view.specs.View.{has, within, subset, with, everyone, firstFrom, leastOf}
+use Rattle.view.specs.View.{has, within, with, everyone, firstFrom, leastOf}
 use Rattle.channel.specs.Channel.{emptyChannel, waiting, pushed, popped}
 use Rattle.system.specs.Process.{entryAt, withEntry, pendingAt, withPending}
-use Rattle.system.specs.System.{noProcess, emptyRow, processAt, withProcess, rowAt, withRow, channelTo, withChannelTo, channelAt, withChannel, sent, sentIfNamed, broadcasted, takesIfNamed, roomFor}
+use Rattle.system.specs.System.{noProcess, processAt, withProcess, channelNumber, channelAt, withChannel, sent, sentIfNamed, broadcasted, takesIfNamed, roomFor}
 use Rattle.system.specs.Fresh.{freshProcess, freshSystem, freshOf}
 use Rattle.sound.specs.Sound.{every, soundProposal, soundMessage, soundPending, soundChannel, soundHistory, soundFields, soundProcess, soundChannelAt, soundAt, soundSystem}
-use Rattle.plan.specs.Fields.{assigned, withHistory, asCrashed}
+use Rattle.plan.specs.Fields.{withHistory, asCrashed}
 use Rattle.plan.specs.Plan.{reportPlan, committingPlan, messagePlan, receivePlan, recordedPlan, respondPlan}
 use Rattle.step.specs.Step.{permitted, carriedOut, takenOff, emptiedFrom, stopped, attempted, stepped}
 use Rattle.system.specs.declared.Process.{Process}
@@ -26,7 +26,7 @@ use Rattle.cases.specs.Points.{points, did, said, variables, carrying, r
 
 -- what the claims are computed with: a claim that unfolds this one unfolds all that its line names
 definitions : Unit {0}
-unfolding pick allUpTo eachUpTo at put has within subset with everyone firstFrom leastOf emptyChannel waiting pushed popped entryAt withEntry pendingAt withPending noProcess emptyRow processAt withProcess rowAt withRow channelTo withChannelTo channelAt withChannel sent sentIfNamed broadcasted takesIfNamed roomFor freshProcess freshSystem freshOf every soundProposal soundMessage soundPending soundChannel soundHistory soundFields soundProcess soundChannelAt soundAt soundSystem assigned withHistory asCrashed reportPlan committingPlan messagePlan receivePlan recordedPlan respondPlan permitted carriedOut takenOff emptiedFrom stopped attempted stepped computed resultOf lineOf unitsTo entriesTo ranFrom logged holding alone k1 k2 k3 k4 k4-full k5-stays k5 k6 k7 k8 k9 ran acceptedFrom acceptedBy acceptedIn accepted entryOf bookEntry opened apart apartFrom admits writtenIn madeIn fed fedAll noneRefused acceptance agreement k2-accepted k2-agreements k2-book at-two at-three twice-accepted shared trials isMade k1-ends variables carrying recorded written crashed
+unfolding pick allUpTo eachUpTo at put has within with everyone firstFrom leastOf emptyChannel waiting pushed popped entryAt withEntry pendingAt withPending noProcess processAt withProcess channelNumber channelAt withChannel sent sentIfNamed broadcasted takesIfNamed roomFor freshProcess freshSystem freshOf every soundProposal soundMessage soundPending soundChannel soundHistory soundFields soundProcess soundChannelAt soundAt soundSystem withHistory asCrashed reportPlan committingPlan messagePlan receivePlan recordedPlan respondPlan permitted carriedOut takenOff emptiedFrom stopped attempted stepped computed resultOf lineOf unitsTo entriesTo ranFrom logged holding alone k1 k2 k3 k4 k4-full k5-stays k5 k6 k7 k8 k9 ran acceptedFrom acceptedBy acceptedIn accepted entryOf bookEntry opened apart apartFrom admits writtenIn madeIn fed fedAll noneRefused acceptance agreement k2-accepted k2-agreements k2-book at-two at-three twice-accepted shared trials isMade k1-ends variables carrying recorded written crashed
 definitions = tt
 
 pub worked-sheets : map computed cases ≡ map expected cases

@@ -13,7 +13,7 @@ use Rattle.system.specs.System.{processAt, withProcess, withChannel, done, refu
 use Rattle.system.specs.Fresh.{freshSystem}
 use Rattle.step.specs.declared.Step.{Step}
 use Rattle.step.specs.Step.{stepped}
-use Rattle.plan.specs.Fields.{index, assigned, asCrashed, withHistory, withView, withNext}
+use Rattle.plan.specs.Fields.{index, assigned, asCrashed, withHistory}
 use Rattle.cases.specs.Case.{r, t, a, s}
 use Rattle.cases.specs.Sheets.{holding}
 

@@ -11,7 +11,7 @@ unfoldable pub acceptance : ℕ → ℕ → ℕ → Acceptance
 acceptance u v i = record { process = u; view = v; index = i }
 
 unfoldable pub agreement : ℕ → ℕ → ℕ → Agreement
-agreement v i writers = record { view = v; index = i; writers = writers }
+agreement v i recipients = record { view = v; index = i; recipients = recipients }
 
 -- what the steps of K2 have accepted, in their order
 unfoldable pub k2-accepted : List Acceptance

@@ -12,7 +12,7 @@ use Rattle.system.specs.declared.System.{System}
 use Rattle.system.specs.declared.Outcome.{Outcome}
 use Rattle.system.specs.declared.Pending.the-variants.{Nothing}
 use Rattle.system.specs.Process.{pendingSlot}
-use Rattle.system.specs.System.{emptyRow, processAt, withProcess, withChannel, done}
+use Rattle.system.specs.System.{processAt, withProcess, withChannel, done}
 use Rattle.system.specs.Fresh.{freshProcess, freshOf, freshSystem}
 use Rattle.step.specs.declared.Step.{Step}
 use Rattle.plan.specs.Fields.{index, assigned}
@@ -70,7 +70,7 @@ k1-ends =
             history = record { entries = 3 ∷ 1 ∷ replicate 30 0 };
           }
           ∷ replicate 7 (freshProcess 2);
-      rows = replicate 8 emptyRow;
+      channels = replicate 64 emptyChannel;
     }
 
 -- K2: "2 reports {2} and carries it through to position 2; 2 reports {1,2}; 1 reports {1,2}, proposing at 2; unit 1 accepts,

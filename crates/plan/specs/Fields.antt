@@ -9,7 +9,7 @@ abbrev pub index : ℕ → GroupIndex
 index i = record { 0 = i }
 
 -- v_p, Next, PropOut, v* and ack, all five
-unfoldable pub assigned : Process → ℕ → GroupIndex → GroupIndex → ℕ → ℕ → Process
+abbrev pub assigned : Process → ℕ → GroupIndex → GroupIndex → ℕ → ℕ → Process
 assigned x view next propout proposal acks =
     record {
       crashed = x .crashed;

@@ -1,7 +1,7 @@
 -- Figure 3, guarded command by guarded command: what process p, whose variables are x, does. Each sends one message to a set of
 -- processes, or none to the empty set, or is refused with a number of document 01's refusal table.
 use Prim.Native.Nat.{ℕ, _+_}
-use mathlib.Core.Bool.{Bool, _&&_, not}
+use mathlib.Core.Bool.{_&&_, not}
 use lib.Dec.{leb, ltb, eqb}
 use Rattle.view.specs.Logic.{pick}
 use Rattle.view.specs.View.{has, within, subset, with, leastOf}
@@ -15,7 +15,7 @@ use Rattle.system.specs.declared.Pending.the-variants.{Nothing, Proposal}
 use Rattle.system.specs.declared.Process.{Process}
 use Rattle.system.specs.Process.{withEntry, pendingAt, withPending}
 use Rattle.plan.specs.declared.Plan.{Plan}
-use Rattle.plan.specs.Fields.{index, withView, withNext, withAcks, proposing, reproposing, withHistory}
+use Rattle.plan.specs.Fields.{index, withView, withNext, withAcks, proposing, reproposing, withHistory, asCrashed}
 
 -- x is what the process becomes; m goes to each process of the view
 abbrev pub sending : Process → ℕ → Message → Plan
@@ -91,3 +91,7 @@ recordedPlan q x (Proposal v i) =
 
 unfoldable pub respondPlan : ℕ → Process → Plan
 respondPlan q x = recordedPlan q x (pendingAt x q)
+
+-- a stop: the process has crashed, and sends nothing
+abbrev pub crashPlan : Process → Plan
+crashPlan x = quietly (asCrashed x)

@@ -3,11 +3,10 @@ ghost use mathlib.Core.Path.{_≡_};
 ghost use lib.Dec.{eqb};
 ghost use Rattle.view.specs.Logic.{pick};
 ghost use Rattle.view.specs.View.{with};
-ghost use Rattle.plan.specs.Fields.{assigned, withView, withNext, withAcks, proposing, reproposing, withHistory};
-ghost use Rattle.plan.specs.Plan.{sending, quietly, refusing, reportPlan, committingPlan, messagePlan, receivePlan, recordedPlan, respondPlan};
+ghost use Rattle.plan.specs.Fields.{assigned, withView, withNext, withAcks, proposing, reproposing};
+ghost use Rattle.plan.specs.Plan.{sending, quietly, refusing, reportPlan, committingPlan, messagePlan, receivePlan, respondPlan, crashPlan};
 use channel::Front;
 use channel::Message;
-use system::History;
 use system::Pending;
 use system::Process;
 use system::with_pending;
@@ -61,7 +60,7 @@ fn quietly(x: Process) -> Plan
     sending(x, 0, Message::Propose(0, GroupIndex(0)))
 }
 
-fn refusing(k: u8, x: Process) -> Plan
+pub fn refusing(k: u8, x: Process) -> Plan
     ensures { λ r. ⌜ r ≡ refusing k x ⌝ }
 {
     Plan {
@@ -136,24 +135,6 @@ fn reproposing(x: Process, i: GroupIndex) -> Process
     assigned(x, x.view, next, i, x.proposal, 0)
 }
 
-fn with_history(x: Process, history: History) -> Process
-    ensures { λ r. ⌜ r ≡ withHistory x history ⌝ }
-{
-    let next = x.next;
-    let propout = x.propout;
-    let pending = x.pending;
-    Process {
-        crashed: x.crashed,
-        view: x.view,
-        next,
-        propout,
-        proposal: x.proposal,
-        acks: x.acks,
-        pending,
-        history,
-    }
-}
-
 // First guarded command: process p of n is told a view.
 pub fn report_plan(n: u8, p: ProcessId, view: u8, x: Process) -> Plan
     ensures { λ r. ⌜ r ≡ reportPlan n (p .0) view x ⌝ }
@@ -219,7 +200,9 @@ fn message_plan(q: ProcessId, p: ProcessId, x: Process, m: Message) -> Plan
         Message::Acc(i) => committing_plan(marked(q, x, i)),
         Message::Commit(v, i) => {
             let h = x.history;
-            quietly(with_history(x, system::with_entry(h, i, v)))
+            let mut y = x;
+            y.history = system::with_entry(h, i, v);
+            quietly(y)
         }
     }
 }
@@ -234,10 +217,11 @@ pub fn receive_plan(q: ProcessId, p: ProcessId, x: Process, front: Front) -> Pla
     }
 }
 
-// What is recorded from process q is answered.
-fn recorded_plan(q: ProcessId, x: Process, pending: Pending) -> Plan
-    ensures { λ r. ⌜ r ≡ recordedPlan (q .0) x pending ⌝ }
+// Third guarded command: the proposal recorded from process q is answered.
+pub fn respond_plan(q: ProcessId, x: Process) -> Plan
+    ensures { λ r. ⌜ r ≡ respondPlan (q .0) x ⌝ }
 {
+    let pending = system::pending_at(x, q);
     match pending {
         Pending::Nothing => refusing(NOTHING_THERE, x),
         Pending::Proposal(v, i) => {
@@ -267,9 +251,11 @@ fn recorded_plan(q: ProcessId, x: Process, pending: Pending) -> Plan
     }
 }
 
-// Third guarded command: the proposal recorded from process q is answered.
-pub fn respond_plan(q: ProcessId, x: Process) -> Plan
-    ensures { λ r. ⌜ r ≡ respondPlan (q .0) x ⌝ }
+// A stop: the process has crashed, and sends nothing.
+pub fn crash_plan(x: Process) -> Plan
+    ensures { λ r. ⌜ r ≡ crashPlan x ⌝ }
 {
-    recorded_plan(q, x, system::pending_at(x, q))
+    let mut next = x;
+    next.crashed = true;
+    quietly(next)
 }

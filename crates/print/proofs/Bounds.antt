@@ -1,5 +1,5 @@
 -- How long the printed texts are at most, for whoever lends a buffer for them.
-use Prim.Native.Nat.{ℕ, zero, suc, min, _+_, _*_, _/_, _%_, _^_, _≤_, _<_}
+use Prim.Native.Nat.{ℕ, zero, suc, min, _+_, _*_, _/_, _^_, _≤_, _<_}
 use mathlib.Core.Bool.{Bool, true, false}
 use mathlib.Core.List.{List, [], _∷_, _++_}
 use native.Mathlib.Omega.{arith}

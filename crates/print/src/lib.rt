@@ -54,7 +54,12 @@ fn put_digits(out: &mut [u8], at: usize, n: u8, k: usize) -> usize
 pub fn put_decimal(out: &mut [u8], at: usize, k: usize) -> usize
     ensures { λ r. ⌜ page (now (out .exit)) r ≡ typed (page (now (out .entry)) at) (decimal k) ⌝ }
 {
-    put_digits(out, at, 20, k)
+    // Most numbers that are printed have one digit.
+    if k < 10 {
+        put_byte(out, at, b'0' + k as u8)
+    } else {
+        put_digits(out, at, 20, k)
+    }
 }
 
 // The digit of a process, if the view names it.

@@ -1,19 +1,29 @@
 -- One turn of a sheet's run: the line that was found is the next one, and what is printed for it stands before the rest.
-use Prim.Native.Nat.{ℕ, suc, _+_, _-_, _≤_, _<_}
+use Prim.Native.Nat.{ℕ, suc, _+_, _-_, _*_, _≤_, _<_}
 use mathlib.Core.Path.{_≡_, refl, sym, _∙_, ap, subst}
-use mathlib.Core.Bool.{true}
+use mathlib.Core.Bool.{Bool, true, _&&_, not}
 use mathlib.Core.List.{List, [], _∷_, _++_}
 use native.Mathlib.Numerals.{add-one}
 use native.Mathlib.Omega.{arith}
 use borrow.Author.Tests.{lt-ltb, le-ltb, eq-eqb, ne-eqb}
-use lib.ListN.{length, take, drop}
-use Rattle.view.specs.Logic.{pick, isOneOf}
-use Rattle.view.proofs.Laws.{by-pick}
+use lib.Dec.{eqb}
+use lib.ListN.{length, getD, set, take, drop}
+use Rattle.view.specs.Logic.{pick, eachUpTo, isOneOf}
+use Rattle.view.specs.View.{has}
+use Rattle.view.proofs.Laws.{by-pick, and-left, one-of}
+use Rattle.channel.specs.declared.Message.{Message}
+use Rattle.channel.specs.declared.Channel.{Channel}
+use Rattle.channel.specs.Channel.{pushed}
+use Rattle.system.specs.declared.Process.{Process}
 use Rattle.system.specs.declared.System.{System}
 use Rattle.system.specs.declared.Outcome.{Outcome}
+use Rattle.system.specs.System.{sentIfNamed}
 use Rattle.system.specs.Fresh.{freshOf}
+use Rattle.system.proofs.Laws.{turn-again}
+use Rattle.sound.specs.Sound.{soundSystem}
+use Rattle.step.specs.Step.{permitted, attempted}
 use Rattle.agreement.proofs.Reachable.{fresh-valid}
-use Rattle.agreement.proofs.SoundSteps.{Valid, step-sound}
+use Rattle.agreement.proofs.SoundSteps.{Valid, sound-stepped, step-sound}
 use Rattle.print.specs.Text.{bytes}
 use Rattle.print.specs.Page.{Page, typed}
 use Rattle.print.specs.Print.{numberedLine, unitLines}
@@ -23,6 +33,8 @@ use Rattle.sheet.specs.declared.parse.Line.the-variants.{Bad, Fresh, Report, Re
 use Rattle.sheet.specs.Lines.{linesOf}
 use Rattle.sheet.specs.Parse.{parsed}
 use Rattle.sheet.proofs.Laws.{Cut}
+use Rattle.run.specs.declared.Order.{Order}
+use Rattle.run.specs.Order.{orderOf}
 use Rattle.run.specs.Output.{answered, noted, answersFrom, badFrom, sizeIn, startedBy, linesOutput, output}
 
 -- a line keeps the system sound
@@ -129,3 +141,38 @@ output-bad sheet start end next n o x h cut said size fresh bad =
 -- the system that a good first line starts
 pub started-valid : (n : ℕ) (o : Outcome) → o ≡ freshOf n → o .refusal ≡ 0 → Valid (o .system)
 started-valid n o fresh good = subst (λ (y : Outcome). y .refusal ≡ 0 → Valid (y .system)) (sym fresh) (fresh-outcome n) good
+
+-- ---- a line as the loop reads it
+ordered : (s : System) (l : Line) → soundSystem s ≡ true
+    → record { refusal = pick (eqb (orderOf l .refusal) 0) (attempted s (orderOf l .step) .refusal) (orderOf l .refusal); system = attempted s (orderOf l .step) .system } ≡ answered s l
+unfolding answered orderOf pick attempted permitted
+ordered s Bad sound = refl
+ordered s (Fresh n) sound = refl
+ordered s (Report p v) sound = sym (sound-stepped s _ sound)
+ordered s (Receive q p) sound = sym (sound-stepped s _ sound)
+ordered s (Respond p q) sound = sym (sound-stepped s _ sound)
+ordered s (Crash p) sound = sym (sound-stepped s _ sound)
+
+pub line-done : (s w : System) (l : Line) (z : Order) (r n : ℕ) → soundSystem s ≡ true → z ≡ orderOf l
+    → record { refusal = r; system = w } ≡ attempted s (z .step)
+    → n ≡ pick (eqb (z .refusal) 0) r (z .refusal)
+    → record { refusal = n; system = w } ≡ answered s l
+line-done s w l z r n sound order step number =
+    rw number (ap (λ (o : Outcome). record { refusal = pick (eqb (z .refusal) 0) (o .refusal) (z .refusal); system = o .system }) step ∙ rw order (ordered s l sound))
+
+pub valid-size : (s : System) → Valid s → s .n ≤ 8
+unfolding soundSystem
+valid-size s k = one-of 8 (s .n) (and-left (isOneOf 8 (s .n)) _ (k .sound)) .1
+
+-- a turn of the loop that sends, where a message is sent
+pub turn-taken : (t s : System) (j i v : ℕ) (m : Message) (d x : Channel) (e : Process) (named go : Bool)
+    → j < 8 → i < 8 → length (t .channels) ≡ 64 → length (t .processes) ≡ 8
+    → go ≡ true
+    → x ≡ pushed (getD (t .channels) (8 * j + i) d) m
+    → go ≡ (named && not (getD (t .processes) i e .crashed))
+    → named ≡ has v (i + 1)
+    → t ≡ eachUpTo i (sentIfNamed (j + 1) v m) s
+    → record { n = t .n; processes = t .processes; channels = set (t .channels) (8 * j + i) x } ≡ eachUpTo (i + 1) (sentIfNamed (j + 1) v m) s
+unfolding pick
+turn-taken t s j i v m d x e named go hj hi lc lp on sent both test so-far =
+    turn-again t s j i v m d x e named go hj hi lc lp (rw on sent) both test so-far

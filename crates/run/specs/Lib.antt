@@ -1,3 +1,4 @@
 -- What is printed for a sheet.
+pub mod Order
 pub mod Output
 pub mod Examples

@@ -17,7 +17,7 @@ use Rattle.system.specs.declared.Pending.the-variants.{Proposal}
 use Rattle.system.specs.declared.Process.{Process}
 use Rattle.system.specs.declared.System.{System}
 use Rattle.system.specs.Process.{entryAt, withEntry, pendingAt, withPending}
-use Rattle.system.specs.System.{noProcess, emptyRow, processAt, withProcess, rowAt, withRow, channelTo, withChannelTo, channelAt, withChannel}
+use Rattle.system.specs.System.{noProcess, processAt, withProcess, channelNumber, channelAt, withChannel}
 use Rattle.system.specs.Fresh.{freshProcess, freshSystem}
 use Rattle.sound.specs.Sound.{every, soundProposal, soundMessage, soundPending, soundChannel, soundHistory, soundFields, soundProcess, soundChannelAt, soundAt, soundSystem}
 
@@ -29,7 +29,7 @@ abbrev pub two : System
 two = freshSystem 2
 
 abbrev pub sized : ℕ → System
-sized n = record { n = n; processes = two .processes; rows = two .rows }
+sized n = record { n = n; processes = two .processes; channels = two .channels }
 
 -- process p of the two, changed
 abbrev pub changed : ℕ → (Process → Process) → System
@@ -197,6 +197,6 @@ examples =
 pub examples-right : allRight examples ≡ true
 unfolding soundSystem soundAt soundChannelAt soundProcess soundFields soundHistory soundChannel soundPending soundMessage soundProposal every
     within has everyone pick allUpTo at put
-    freshSystem freshProcess processAt withProcess rowAt withRow channelTo withChannelTo channelAt withChannel noProcess emptyRow
+    freshSystem freshProcess processAt withProcess channelNumber channelAt withChannel noProcess
     entryAt withEntry pendingAt withPending emptyChannel waiting
 examples-right = refl

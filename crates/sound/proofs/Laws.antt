@@ -1,5 +1,5 @@
 -- Laws of the soundness test: one turn of each of its loops.
-use Prim.Native.Nat.{ℕ, zero, suc, _+_, _-_, _<_, _≤_}
+use Prim.Native.Nat.{ℕ, zero, suc, _+_, _-_, _*_, _<_, _≤_}
 use mathlib.Core.Path.{_≡_, refl, sym}
 use mathlib.Core.Bool.{Bool, true, _&&_, _||_, not, and-assoc, and-true}
 use mathlib.Core.List.{List, [], _∷_, map}
@@ -15,15 +15,15 @@ use Rattle.view.proofs.Laws.{all-more, at-next}
 use Rattle.channel.specs.declared.Message.{Message}
 use Rattle.channel.specs.declared.Slot.{Slot}
 use Rattle.channel.specs.declared.Channel.{Channel}
-use Rattle.channel.specs.Channel.{emptyChannel, message, waiting}
+use Rattle.channel.specs.Channel.{message, waiting}
 use Rattle.system.specs.declared.History.{History}
 use Rattle.system.specs.declared.Pending.the-variants.{Nothing}
 use Rattle.system.specs.declared.PendingSlot.{PendingSlot}
 use Rattle.system.specs.declared.Process.{Process}
-use Rattle.system.specs.declared.Row.{Row}
 use Rattle.system.specs.declared.System.{System}
 use Rattle.system.specs.Process.{entryAt, pendingSlot, pendingAt}
-use Rattle.system.specs.System.{noProcess, processAt, rowAt, channelTo, channelAt}
+use Rattle.system.specs.System.{noProcess, processAt}
+use Rattle.system.proofs.Laws.{channel-next}
 use Rattle.sound.specs.Sound.{between, every, soundMessage, soundChannel, soundHistory, soundFields, soundPending, soundProcess, soundChannelAt, soundAt, soundSystem}
 
 -- ---- messages on a channel
@@ -95,21 +95,21 @@ pub record-all : (n p : ℕ) (x : Process) → recordsSoFar n p x n ≡ soundPro
 unfolding recordsSoFar soundProcess
 record-all n p x = refl
 
--- ---- rows of a system
+-- ---- senders: the processes of a system, each with the channels that it sends on
 -- processes 1 to i are sound, with the channels that they send on
-unfoldable pub rowsSoFar : System → ℕ → Bool
-rowsSoFar s i = allUpTo i (soundAt s)
+unfoldable pub sendersSoFar : System → ℕ → Bool
+sendersSoFar s i = allUpTo i (soundAt s)
 
 -- the processes before q are sound, process q, and its channels to processes 1 to j
 unfoldable pub channelsSoFar : System → ℕ → ℕ → Bool
-channelsSoFar s q j = rowsSoFar s (q - 1) && soundProcess (s .n) q (processAt s q) && allUpTo j (soundChannelAt s q)
+channelsSoFar s q j = sendersSoFar s (q - 1) && soundProcess (s .n) q (processAt s q) && allUpTo j (soundChannelAt s q)
 
-pub row-none : (s : System) → true ≡ rowsSoFar s 0
-unfolding rowsSoFar allUpTo
-row-none s = refl
+pub sender-none : (s : System) → true ≡ sendersSoFar s 0
+unfolding sendersSoFar allUpTo
+sender-none s = refl
 
 pub channel-none : (s : System) (i : ℕ) (d : Process) (ok ok′ x : Bool) → i < length (s .processes)
-    → ok ≡ rowsSoFar s i
+    → ok ≡ sendersSoFar s i
     → ok′ ≡ (ok && x)
     → x ≡ soundProcess (s .n) (i + 1) (getD (s .processes) i d)
     → ok′ ≡ channelsSoFar s (i + 1) 0
@@ -118,29 +118,28 @@ channel-none s i d ok ok′ x h so-far both test =
     let e : i + 1 - 1 ≡ i = omega arith in
     rw (and-true, e, ← so-far, both, test, at-next (s .processes) i d noProcess h)
 
-pub channel-again : (s : System) (q j : ℕ) (r : Row) (c : Channel) (d : Process) (ok ok′ x : Bool)
-    → r ≡ rowAt s q → j < length (r .channels) → j < length (s .processes)
-    → ok ≡ channelsSoFar s q j
+pub channel-again : (s : System) (i j : ℕ) (c : Channel) (d : Process) (ok ok′ x : Bool)
+    → i < 8 → j < 8 → length (s .channels) ≡ 64 → length (s .processes) ≡ 8
+    → ok ≡ channelsSoFar s (i + 1) j
     → ok′ ≡ (ok && x)
-    → x ≡ soundChannel (s .n) (getD (s .processes) j d .crashed) q (j + 1) (getD (r .channels) j c)
-    → ok′ ≡ channelsSoFar s q (j + 1)
-unfolding channelsSoFar soundChannelAt channelAt channelTo processAt
-channel-again s q j r c d ok ok′ x row lc lp so-far both test =
+    → x ≡ soundChannel (s .n) (getD (s .processes) j d .crashed) (i + 1) (j + 1) (getD (s .channels) (8 * i + j) c)
+    → ok′ ≡ channelsSoFar s (i + 1) (j + 1)
+unfolding channelsSoFar soundChannelAt processAt
+channel-again s i j c d ok ok′ x hi hj lc lp so-far both test =
     rw (
       all-more,
       ← and-assoc,
       ← so-far,
-      ← row,
       both,
       test,
-      at-next (r .channels) j c emptyChannel lc,
-      at-next (s .processes) j d noProcess lp,
+      channel-next s i j c hi hj lc,
+      at-next (s .processes) j d noProcess (omega arith),
     )
 
-pub row-again : (s : System) (i j : ℕ) (ok : Bool) → j ≡ s .n → ok ≡ channelsSoFar s (i + 1) j → ok ≡ rowsSoFar s (i + 1)
-unfolding channelsSoFar rowsSoFar soundAt
-row-again s i j ok end so-far = let e : i + 1 - 1 ≡ i = omega arith in rw (all-more, ← and-assoc) (rw (end, e) at so-far)
+pub sender-again : (s : System) (i j : ℕ) (ok : Bool) → j ≡ s .n → ok ≡ channelsSoFar s (i + 1) j → ok ≡ sendersSoFar s (i + 1)
+unfolding channelsSoFar sendersSoFar soundAt
+sender-again s i j ok end so-far = let e : i + 1 - 1 ≡ i = omega arith in rw (all-more, ← and-assoc) (rw (end, e) at so-far)
 
-pub row-all : (s : System) (i : ℕ) (ok : Bool) → i ≡ s .n → between 1 8 (s .n) ≡ true → ok ≡ rowsSoFar s i → ok ≡ soundSystem s
-unfolding rowsSoFar soundSystem
-row-all s i ok end size so-far = rw size (rw end at so-far)
+pub sender-all : (s : System) (i : ℕ) (ok : Bool) → i ≡ s .n → between 1 8 (s .n) ≡ true → ok ≡ sendersSoFar s i → ok ≡ soundSystem s
+unfolding sendersSoFar soundSystem
+sender-all s i ok end size so-far = rw size (rw end at so-far)

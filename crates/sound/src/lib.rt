@@ -1,6 +1,5 @@
 // Is a system sound? Decided for every value whatever.
 ghost use Prim.Native.Nat.{_≤_};
-ghost use lib.ListN.{length};
 ghost use mathlib.Core.Path.{_≡_};
 ghost use Rattle.sound.specs.Sound.{between, soundProposal, soundMessage, soundPending, soundChannel, soundHistory, soundFields, soundProcess, soundSystem};
 use channel::Channel;
@@ -8,7 +7,6 @@ use channel::Message;
 use system::History;
 use system::Pending;
 use system::Process;
-use system::Row;
 use system::System;
 use view::GroupIndex;
 use view::ProcessId;
@@ -129,13 +127,6 @@ fn sound_process(n: u8, p: ProcessId, x: Process) -> bool
     ok
 }
 
-// The row itself. A caller that read it out of a larger array learns here that it has eight channels.
-fn whole(r: Row) -> Row
-    ensures { λ t. ⌜ (t ≡ r) × (length (r .channels) ≡ 8) ⌝ }
-{
-    r
-}
-
 // Document 01: "A table is sound when ..".
 pub fn sound(s: System) -> bool
     ensures { λ r. ⌜ r ≡ soundSystem s ⌝ }
@@ -146,16 +137,18 @@ pub fn sound(s: System) -> bool
         let mut i: u8 = 0;
         while i < n {
             let x = s.processes[i as usize];
-            let r = whole(s.rows[i as usize]);
-            i += 1;
-            ok = and(ok, sound_process(n, ProcessId(i), x));
+            ok = and(ok, sound_process(n, ProcessId(i + 1), x));
             let mut j: u8 = 0;
             while j < n {
-                let c = r.channels[j as usize];
+                let c = s.channels[8 * (i as usize) + (j as usize)];
                 let crashed = s.processes[j as usize].crashed;
                 j += 1;
-                ok = and(ok, sound_channel(n, crashed, ProcessId(i), ProcessId(j), c));
+                ok = and(
+                    ok,
+                    sound_channel(n, crashed, ProcessId(i + 1), ProcessId(j), c),
+                );
             }
+            i += 1;
         }
         ok
     } else {

@@ -1,6 +1,6 @@
 -- One step of any kind on any system, and a list of steps.
 use Prim.Native.Nat.{ℕ}
-use mathlib.Core.Bool.{Bool, _&&_}
+use mathlib.Core.Bool.{_&&_}
 use mathlib.Core.List.{List, [], _∷_}
 use lib.Dec.{eqb}
 use Rattle.view.specs.Logic.{pick, eachUpTo, isOneOf}

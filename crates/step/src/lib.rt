@@ -1,18 +1,13 @@
 // The four steps of Figure 3. Document 01 calls them report, take, answer and stop.
 ghost use mathlib.Core.Bool.{_&&_};
 ghost use mathlib.Core.Path.{_≡_};
-ghost use Rattle.channel.specs.Channel.{emptyChannel};
-ghost use Rattle.system.specs.System.{withChannelTo};
-ghost use Rattle.view.specs.Logic.{pick, isOneOf};
-ghost use Rattle.plan.specs.Fields.{asCrashed};
-ghost use Rattle.step.specs.Step.{carriedOut, stopped, attempted, stepped};
+ghost use Rattle.view.specs.Logic.{pick, eachUpTo, isOneOf};
+ghost use Rattle.step.specs.Step.{permitted, carriedOut, emptiedFrom, attempted, stepped};
 use plan::CHANNEL_FULL;
 use plan::CRASHED;
 use plan::Plan;
 use plan::UNSOUND;
 use system::Outcome;
-use system::Process;
-use system::Row;
 use system::STRANGER;
 use system::System;
 use system::broadcast;
@@ -24,7 +19,6 @@ use system::with_process;
 use view::ProcessId;
 use view::and;
 use view::is_one_of;
-use view::place;
 
 // One step of any kind.
 pub enum Step {
@@ -39,7 +33,7 @@ pub enum Step {
 }
 
 // Refusals 2 and 3, or 0: of n processes p acts, and q is the other one that the step names.
-fn guard(n: u8, p: ProcessId, q: ProcessId, crashed: bool) -> u8
+pub fn guard(n: u8, p: ProcessId, q: ProcessId, crashed: bool) -> u8
     ensures { λ r. ⌜ r ≡ pick (isOneOf n (p .0) && isOneOf n (q .0)) (pick crashed 3 0) 2 ⌝ }
 {
     if and(is_one_of(n, p), is_one_of(n, q)) {
@@ -74,100 +68,53 @@ fn carry_out(s: System, t: System, p: ProcessId, a: Plan) -> Outcome
     }
 }
 
-// A row whose channel to process p is emptied.
-fn emptied(r: Row, p: ProcessId) -> Row
-    ensures { λ t. ⌜ t ≡ withChannelTo r (p .0) emptyChannel ⌝ }
+// Every channel towards process p is emptied.
+fn emptied(s: System, p: ProcessId) -> System
+    ensures { λ r. ⌜ r ≡ eachUpTo 8 (emptiedFrom (p .0)) s ⌝ }
 {
-    let at = place(8, p.0);
-    let mut next = r;
-    if at < 8 {
-        next.channels[at] = channel::empty();
+    let mut next = s;
+    let mut q: u8 = 0;
+    while q < 8 {
+        q += 1;
+        next = with_channel(next, ProcessId(q), p, channel::empty());
     }
     next
 }
 
-fn as_crashed(x: Process) -> Process
-    ensures { λ r. ⌜ r ≡ asCrashed x ⌝ }
-{
-    let mut next = x;
-    next.crashed = true;
-    next
-}
-
-// Process p has crashed, and every channel towards it is emptied.
-fn stop(s: System, p: ProcessId) -> System
-    ensures { λ r. ⌜ r ≡ stopped s (p .0) ⌝ }
-{
-    let mut next = with_process(s, p, as_crashed(process_at(s, p)));
-    let mut i: usize = 0;
-    while i < 8 {
-        let r = next.rows[i];
-        next.rows[i] = emptied(r, p);
-        i += 1;
-    }
-    next
-}
-
-fn attempt_report(s: System, p: ProcessId, view: u8) -> Outcome
-    ensures { λ r. ⌜ r ≡ attempted s (Step.Report p view) ⌝ }
-{
-    let x = process_at(s, p);
-    let refusal = guard(s.n, p, p, x.crashed);
-    if refusal == 0 {
-        carry_out(s, s, p, plan::report_plan(s.n, p, view, x))
-    } else {
-        Outcome { refusal, system: s }
-    }
-}
-
-fn attempt_receive(s: System, q: ProcessId, p: ProcessId) -> Outcome
-    ensures { λ r. ⌜ r ≡ attempted s (Step.Receive q p) ⌝ }
+// Refusals 2 and 3; or the plan of process p is carried out in t.
+fn permit(s: System, t: System, p: ProcessId, q: ProcessId, a: Plan) -> Outcome
+    ensures { λ r. ⌜ r ≡ permitted s (p .0) (q .0) (carriedOut s t (p .0) a) ⌝ }
 {
     let x = process_at(s, p);
     let refusal = guard(s.n, p, q, x.crashed);
     if refusal == 0 {
-        let c = channel_at(s, q, p);
-        let t = with_channel(s, q, p, channel::pop(c));
-        carry_out(s, t, p, plan::receive_plan(q, p, x, channel::first(c)))
-    } else {
-        Outcome { refusal, system: s }
-    }
-}
-
-fn attempt_respond(s: System, p: ProcessId, q: ProcessId) -> Outcome
-    ensures { λ r. ⌜ r ≡ attempted s (Step.Respond p q) ⌝ }
-{
-    let x = process_at(s, p);
-    let refusal = guard(s.n, p, q, x.crashed);
-    if refusal == 0 {
-        carry_out(s, s, p, plan::respond_plan(q, x))
-    } else {
-        Outcome { refusal, system: s }
-    }
-}
-
-fn attempt_crash(s: System, p: ProcessId) -> Outcome
-    ensures { λ r. ⌜ r ≡ attempted s (Step.Crash p) ⌝ }
-{
-    let x = process_at(s, p);
-    let refusal = guard(s.n, p, p, x.crashed);
-    if refusal == 0 {
-        let system = stop(s, p);
-        Outcome { refusal: 0, system }
+        carry_out(s, t, p, a)
     } else {
         Outcome { refusal, system: s }
     }
 }
 
 // The step, on a system taken to be sound.
-pub fn attempt(s: System, o: Step) -> Outcome
+fn attempt(s: System, o: Step) -> Outcome
     ensures { λ r. ⌜ r ≡ attempted s o ⌝ }
 {
     match o {
-        Step::Report(p, view) => attempt_report(s, p, view),
-        Step::Receive(q, p) => attempt_receive(s, q, p),
-        Step::Respond(p, q) => attempt_respond(s, p, q),
-        Step::Crash(p) => attempt_crash(s, p),
+        Step::Report(p, view) => {
+            permit(
+                s,
+                s,
+                p,
+                p,
+                plan::report_plan(s.n, p, view, process_at(s, p)),
+            )
+        }
+        Step::Receive(q, p) => {
+            let c = channel_at(s, q, p);
+            let a = plan::receive_plan(q, p, process_at(s, p), channel::first(c));
+            permit(s, with_channel(s, q, p, channel::pop(c)), p, q, a)
+        }
+        Step::Respond(p, q) => permit(s, s, p, q, plan::respond_plan(q, process_at(s, p))),
+        Step::Crash(p) => permit(s, emptied(s, p), p, p, plan::crash_plan(process_at(s, p))),
     }
 }
 

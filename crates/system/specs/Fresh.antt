@@ -6,12 +6,13 @@ use mathlib.Core.Bool.{false}
 use lib.ListN.{replicate}
 use Rattle.view.specs.Logic.{pick, isOneOf}
 use Rattle.view.specs.View.{everyone}
+use Rattle.channel.specs.Channel.{emptyChannel}
 use Rattle.system.specs.declared.Pending.the-variants.{Nothing}
 use Rattle.system.specs.declared.Process.{Process}
 use Rattle.system.specs.declared.System.{System}
 use Rattle.system.specs.declared.Outcome.{Outcome}
 use Rattle.system.specs.Process.{withEntry, noEntries, pendingSlot}
-use Rattle.system.specs.System.{emptyRow, done, refused}
+use Rattle.system.specs.System.{done, refused}
 
 unfoldable pub freshProcess : ℕ → Process
 freshProcess n =
@@ -27,7 +28,7 @@ freshProcess n =
     }
 
 unfoldable pub freshSystem : ℕ → System
-freshSystem n = record { n = n; processes = replicate 8 (freshProcess n); rows = replicate 8 emptyRow }
+freshSystem n = record { n = n; processes = replicate 8 (freshProcess n); channels = replicate 64 emptyChannel }
 
 unfoldable pub freshOf : ℕ → Outcome
 freshOf n = pick (isOneOf 8 n) (done (freshSystem n)) (refused 2 (freshSystem 0))

@@ -1,21 +1,19 @@
 -- Document 01's table, called the system here: n processes and, between every ordered pair of them, one channel.
--- The channels that one process sends on are a row.
-use Prim.Native.Nat.{ℕ}
-use mathlib.Core.Bool.{Bool, false, _||_, not}
+use Prim.Native.Nat.{ℕ, _+_, _-_, _*_}
+use mathlib.Core.Bool.{Bool, false, _&&_, _||_, not}
 use lib.ListN.{replicate}
-use Rattle.view.specs.Logic.{pick, allUpTo, eachUpTo, at, put}
+use Rattle.view.specs.Logic.{pick, allUpTo, eachUpTo, at, put, isOneOf}
 use Rattle.view.specs.View.{has}
 use Rattle.channel.specs.declared.Message.{Message}
 use Rattle.channel.specs.declared.Channel.{Channel}
 use Rattle.channel.specs.Channel.{emptyChannel, hasRoom, pushed}
 use Rattle.system.specs.declared.Pending.the-variants.{Nothing}
 use Rattle.system.specs.declared.Process.{Process}
-use Rattle.system.specs.declared.Row.{Row}
 use Rattle.system.specs.declared.System.{System}
 use Rattle.system.specs.declared.Outcome.{Outcome}
 use Rattle.system.specs.Process.{noEntries, pendingSlot}
 
--- what is read where there is no process or no row of that number
+-- what is read where there is no process of that number
 unfoldable pub noProcess : Process
 noProcess =
     record {
@@ -29,34 +27,22 @@ noProcess =
       history = noEntries;
     }
 
-unfoldable pub emptyRow : Row
-emptyRow = record { channels = replicate 8 emptyChannel }
-
 unfoldable pub processAt : System → ℕ → Process
 processAt s p = at (s .processes) p noProcess
 
 unfoldable pub withProcess : System → ℕ → Process → System
-withProcess s p x = record { n = s .n; processes = put (s .processes) p x; rows = s .rows }
+withProcess s p x = record { n = s .n; processes = put (s .processes) p x; channels = s .channels }
 
-unfoldable pub rowAt : System → ℕ → Row
-rowAt s q = at (s .rows) q emptyRow
-
-unfoldable pub withRow : System → ℕ → Row → System
-withRow s q r = record { n = s .n; processes = s .processes; rows = put (s .rows) q r }
-
--- on a row: the channel to process p
-unfoldable pub channelTo : Row → ℕ → Channel
-channelTo r p = at (r .channels) p emptyChannel
-
-unfoldable pub withChannelTo : Row → ℕ → Channel → Row
-withChannelTo r p c = record { channels = put (r .channels) p c }
+-- which of the sixty-four channels runs from process q to process p, counted from 1; 0 where there is none
+unfoldable pub channelNumber : ℕ → ℕ → ℕ
+channelNumber q p = pick (isOneOf 8 q && isOneOf 8 p) (8 * (q - 1) + p) 0
 
 -- the channel from process q to process p
 unfoldable pub channelAt : System → ℕ → ℕ → Channel
-channelAt s q p = channelTo (rowAt s q) p
+channelAt s q p = at (s .channels) (channelNumber q p) emptyChannel
 
 unfoldable pub withChannel : System → ℕ → ℕ → Channel → System
-withChannel s q p c = withRow s q (withChannelTo (rowAt s q) p c)
+withChannel s q p c = record { n = s .n; processes = s .processes; channels = put (s .channels) (channelNumber q p) c }
 
 -- one message from q to p: "A message sent to a stopped unit vanishes and needs no room."
 unfoldable pub sent : System → ℕ → ℕ → Message → System

@@ -1,10 +1,9 @@
 // The system: up to eight processes and the channels between them. Document 01 calls it a table.
 ghost use mathlib.Core.Path.{_≡_};
 ghost use Rattle.system.specs.Process.{entryAt, withEntry, pendingAt, withPending};
-ghost use lib.ListN.{length};
-ghost use Rattle.view.specs.Logic.{pick};
+ghost use Rattle.view.specs.Logic.{pick, placeOf};
 ghost use Rattle.channel.specs.Channel.{pushed};
-ghost use Rattle.system.specs.System.{noProcess, processAt, withProcess, channelTo, withChannelTo, channelAt, withChannel, roomFor, sent, broadcasted};
+ghost use Rattle.system.specs.System.{processAt, withProcess, channelNumber, channelAt, withChannel, roomFor, sent, broadcasted};
 ghost use Rattle.system.specs.Fresh.{freshProcess, freshSystem, freshOf};
 use channel::Channel;
 use channel::Message;
@@ -47,16 +46,12 @@ pub struct Process {
     pub history: History,
 }
 
-// The channels that one process sends on.
-pub struct Row {
-    pub channels: [Channel; 8],
-}
-
-// Any caller may hand over anything: every field is public, and every function takes every value.
+// The channel from process q to process p is the one at 8 * (q - 1) + p - 1. Any caller may hand over
+// anything: every field is public, and every function takes every value.
 pub struct System {
     pub n: u8,
     pub processes: [Process; 8],
-    pub rows: [Row; 8],
+    pub channels: [Channel; 64],
 }
 
 // The number 0 and the next system, or a refusal number and the same system.
@@ -108,28 +103,6 @@ pub fn with_pending(p: Process, q: ProcessId, x: Pending) -> Process
     next
 }
 
-// What is read where there is no process of that number.
-fn no_process() -> Process
-    ensures { λ r. ⌜ r ≡ noProcess ⌝ }
-{
-    let slot = PendingSlot {
-        pending: Pending::Nothing,
-    };
-    let pending = [slot; 8];
-    let entries = [0u8; 32];
-    let history = History { entries };
-    Process {
-        crashed: false,
-        view: 0,
-        next: GroupIndex(0),
-        propout: GroupIndex(0),
-        proposal: 0,
-        acks: 0,
-        pending,
-        history,
-    }
-}
-
 pub fn process_at(s: System, p: ProcessId) -> Process
     ensures { λ r. ⌜ r ≡ processAt s (p .0) ⌝ }
 {
@@ -137,7 +110,23 @@ pub fn process_at(s: System, p: ProcessId) -> Process
     if at < 8 {
         s.processes[at]
     } else {
-        no_process()
+        // What is read where there is no process of that number.
+        let slot = PendingSlot {
+            pending: Pending::Nothing,
+        };
+        let pending = [slot; 8];
+        let entries = [0u8; 32];
+        let history = History { entries };
+        Process {
+            crashed: false,
+            view: 0,
+            next: GroupIndex(0),
+            propout: GroupIndex(0),
+            proposal: 0,
+            acks: 0,
+            pending,
+            history,
+        }
     }
 }
 
@@ -152,37 +141,26 @@ pub fn with_process(s: System, p: ProcessId, x: Process) -> System
     next
 }
 
-// On a row, the channel to process p.
-fn channel_to(r: Row, p: ProcessId) -> Channel
-    ensures { λ c. ⌜ c ≡ channelTo r (p .0) ⌝ }
+// Where the channel from process q to process p stands; 64 where there is none.
+fn channel_place(q: ProcessId, p: ProcessId) -> usize
+    ensures { λ r. ⌜ r ≡ placeOf 64 (channelNumber (q .0) (p .0)) ⌝ }
 {
-    let at = place(8, p.0);
-    if at < 8 {
-        r.channels[at]
+    let from = place(8, q.0);
+    let to = place(8, p.0);
+    if from < 8 {
+        if to < 8 { 8 * from + to } else { 64 }
     } else {
-        channel::empty()
+        64
     }
-}
-
-fn with_channel_to(r: Row, p: ProcessId, c: Channel) -> Row
-    ensures { λ t. ⌜ t ≡ withChannelTo r (p .0) c ⌝ }
-{
-    let at = place(8, p.0);
-    let mut next = r;
-    if at < 8 {
-        next.channels[at] = c;
-    }
-    next
 }
 
 // The channel from process q to process p.
 pub fn channel_at(s: System, q: ProcessId, p: ProcessId) -> Channel
     ensures { λ r. ⌜ r ≡ channelAt s (q .0) (p .0) ⌝ }
 {
-    let at = place(8, q.0);
-    if at < 8 {
-        let r = s.rows[at];
-        channel_to(r, p)
+    let at = channel_place(q, p);
+    if at < 64 {
+        s.channels[at]
     } else {
         channel::empty()
     }
@@ -191,11 +169,10 @@ pub fn channel_at(s: System, q: ProcessId, p: ProcessId) -> Channel
 pub fn with_channel(s: System, q: ProcessId, p: ProcessId, c: Channel) -> System
     ensures { λ r. ⌜ r ≡ withChannel s (q .0) (p .0) c ⌝ }
 {
-    let at = place(8, q.0);
+    let at = channel_place(q, p);
     let mut next = s;
-    if at < 8 {
-        let r = s.rows[at];
-        next.rows[at] = with_channel_to(r, p, c);
+    if at < 64 {
+        next.channels[at] = c;
     }
     next
 }
@@ -213,13 +190,6 @@ pub fn send(s: System, q: ProcessId, p: ProcessId, m: Message) -> System
     }
 }
 
-// The row itself. A caller that read it out of a larger array learns here that it has eight channels.
-fn whole(r: Row) -> Row
-    ensures { λ t. ⌜ (t ≡ r) × (length (r .channels) ≡ 8) ⌝ }
-{
-    r
-}
-
 // A channel with a message more where it is to have one.
 fn told(c: Channel, go: bool, m: Message) -> Channel
     ensures { λ r. ⌜ r ≡ pick go (pushed c m) c ⌝ }
@@ -232,22 +202,18 @@ pub fn broadcast(s: System, q: ProcessId, view: u8, m: Message) -> System
     ensures { λ r. ⌜ r ≡ broadcasted s (q .0) view m ⌝ }
 {
     let from = place(8, q.0);
+    let mut next = s;
     if from < 8 {
-        let mut row = whole(s.rows[from]);
         let mut i: u8 = 0;
         while i < 8 {
-            let at = i as usize;
-            let c = row.channels[at];
-            let crashed = s.processes[at].crashed;
+            let at = 8 * from + (i as usize);
+            let c = next.channels[at];
+            let crashed = next.processes[i as usize].crashed;
             i += 1;
-            row.channels[at] = told(c, and(has(view, ProcessId(i)), !crashed), m);
+            next.channels[at] = told(c, and(has(view, ProcessId(i)), !crashed), m);
         }
-        let mut next = s;
-        next.rows[from] = row;
-        next
-    } else {
-        s
     }
+    next
 }
 
 // Each process of a view has crashed, or has room for a message from process q.
@@ -255,22 +221,18 @@ pub fn room_for(s: System, q: ProcessId, view: u8) -> bool
     ensures { λ r. ⌜ r ≡ roomFor s (q .0) view ⌝ }
 {
     let from = place(8, q.0);
+    let mut ok = true;
     if from < 8 {
-        let row = whole(s.rows[from]);
-        let mut ok = true;
         let mut i: u8 = 0;
         while i < 8 {
-            let at = i as usize;
-            let c = row.channels[at];
-            let crashed = s.processes[at].crashed;
+            let c = s.channels[8 * from + (i as usize)];
+            let crashed = s.processes[i as usize].crashed;
             i += 1;
             let takes = or(crashed, channel::has_room(c));
             ok = and(ok, or(!has(view, ProcessId(i)), takes));
         }
-        ok
-    } else {
-        true
     }
+    ok
 }
 
 fn fresh_process(n: u8) -> Process
@@ -281,8 +243,9 @@ fn fresh_process(n: u8) -> Process
         pending: Pending::Nothing,
     };
     let pending = [slot; 8];
-    let entries = [0u8; 32];
-    let history = with_entry(History { entries }, GroupIndex(1), all);
+    let mut entries = [0u8; 32];
+    entries[0] = all;
+    let history = History { entries };
     Process {
         crashed: false,
         view: all,
@@ -300,11 +263,13 @@ fn fresh_system(n: u8) -> System
 {
     let p = fresh_process(n);
     let c = channel::empty();
-    let channels = [c; 8];
-    let row = Row { channels };
     let processes = [p; 8];
-    let rows = [row; 8];
-    System { n, processes, rows }
+    let channels = [c; 64];
+    System {
+        n,
+        processes,
+        channels,
+    }
 }
 
 // The fresh system of n processes; for another number than 1 to 8, a refusal and a system of none.

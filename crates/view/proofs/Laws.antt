@@ -59,6 +59,9 @@ same-true false false e = refl
 pub one-of : (n k : ℕ) → isOneOf n k ≡ true → (1 ≤ k) × (k ≤ n)
 one-of n k e = (leb-true 1 k (and-left (leb 1 k) (leb k n) e), leb-true k n (and-right (leb 1 k) (leb k n) e))
 
+pub is-one-of : (n k : ℕ) → 1 ≤ k → k ≤ n → isOneOf n k ≡ true
+is-one-of n k l u = and-intro (le-leb 1 k l) (le-leb k n u)
+
 -- ---- loops
 pub all-more : (i : ℕ) (f : ℕ → Bool) → allUpTo (i + 1) f ≡ (allUpTo i f && f (i + 1))
 unfolding allUpTo
@@ -72,6 +75,12 @@ pub each-same : {A : Type 0} (n : ℕ) (f : ℕ → A → A) (a : A) → ((k : �
 unfolding eachUpTo
 each-same zero f a h = refl
 each-same (suc n) f a h = ap (f (suc n)) (each-same n f a h) ∙ h (suc n)
+
+-- a change that each turn goes past, made before all of them or after
+pub each-past : {A : Type 0} (g : A → A) (n : ℕ) (f : ℕ → A → A) → ((k : ℕ) (a : A) → f k (g a) ≡ g (f k a)) → (a : A) → eachUpTo n f (g a) ≡ g (eachUpTo n f a)
+unfolding eachUpTo
+each-past g zero f h a = refl
+each-past g (suc n) f h a = ap (f (suc n)) (each-past g n f h a) ∙ h (suc n) (eachUpTo n f a)
 
 -- a change that is made for each of 1 to n keeps what each turn keeps
 pub each-keeps : {A : Type 0} (K : A → Type 0) (n : ℕ) (f : ℕ → A → A) → ((k : ℕ) → 1 ≤ k → k ≤ n → (a : A) → K a → K (f k a)) → (a : A) → K a → K (eachUpTo n f a)
@@ -192,6 +201,14 @@ place-out n (suc k) h = go (decLe (suc k) n)
     go : Dec (suc k ≤ n) → (suc k ≡ 0) ⊎ (n < suc k)
     go (yes p) = absurd (omega (arith, rw (and-intro (le-leb 1 (suc k) (omega arith)) (le-leb (suc k) n p)) at h))
     go (no q) = inr (lt-of-not-le q)
+
+pub not-found : (n k r : ℕ) → r ≡ placeOf n k → n ≤ r → isOneOf n k ≡ false
+unfolding placeOf pick
+not-found n k r place h = go (isOneOf n k) refl
+  where
+    go : (b : Bool) → isOneOf n k ≡ b → b ≡ false
+    go true e = absurd (omega (arith, one-of n k e, rw e at place))
+    go false e = refl
 
 pub found-next : (n k r : ℕ) → r ≡ placeOf n k → r < n → k ≡ r + 1
 found-next n k r place h = omega (arith, place-in n k (rw (← place) h))

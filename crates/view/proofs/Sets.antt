@@ -77,7 +77,6 @@ has-and a b u e =
 
 -- a part of a view names only what the view names
 pub subset-has : (a b u : ℕ) → subset a b ≡ true → has a u ≡ true → has b u ≡ true
-unfolding subset
 subset-has a b u s e = has-and a b u (subst (λ (v : ℕ). has v u ≡ true) (sym (eqb-true (bitAnd a b) a s)) e)
 
 -- ---- one process added

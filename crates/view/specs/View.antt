@@ -16,7 +16,7 @@ unfoldable pub within : ℕ → ℕ → Bool
 within n v = allUpTo 8 (λ k. not (has v k) || leb k n)
 
 -- each process that a names is named by b: what the two share is all of a
-unfoldable pub subset : ℕ → ℕ → Bool
+abbrev pub subset : ℕ → ℕ → Bool
 subset a b = eqb (bitAnd a b) a
 
 -- the view with process k added; a number that no process can have adds nothing

@@ -1,6 +1,6 @@
 // Views: sets of up to eight processes, kept as one byte. Document 01 calls a process a unit.
 ghost use mathlib.Core.Path.{_≡_};
-ghost use mathlib.Core.Bool.{_&&_, _||_, not};
+ghost use mathlib.Core.Bool.{_&&_, _||_};
 ghost use Rattle.view.specs.Logic.{isOneOf, placeOf};
 ghost use Rattle.view.specs.View.{has, within, subset, with, everyone, leastOf};
 

@@ -1,111 +1,201 @@
 //! The ways to each number, counted, so that the test sees that it has met them all.
 
+use crate::faults::{DAMAGES, FAULTS};
+use crate::lines::{FIRST, LATER};
 use reference::{Message, Process, ProcessId, Step, System, View};
-use std::collections::BTreeMap;
+use std::collections::{BTreeMap, BTreeSet};
 
-pub const WAYS: &[&str] = &[
-    "report done, proposing",
-    "report done, not least",
-    "take done, Propose",
-    "take done, Retry acted on",
-    "take done, Retry ignored",
-    "take done, Acc completing",
-    "take done, Acc not completing",
-    "take done, stale Acc",
-    "take done, Acc with nothing proposed",
-    "take done, Commit",
-    "answer done, Acc",
-    "answer done, Retry",
-    "stop done",
-    "1 wrong length",
-    "1 no image",
-    "1 unsound table",
+/// Each way is met at least so often, where it can be met at all.
+pub const AT_LEAST: u64 = 20;
+
+/// How a step on a sound system comes to its number, by images and by sheets. Where a way's end is
+/// the case of a higher number, it shows that the lowest is given.
+const STEPS: &[&str] = &[
+    "0 report, proposing",
+    "0 report, not least",
+    "0 take, Propose",
+    "0 take, Retry acted on",
+    "0 take, Retry ignored",
+    "0 take, Acc completing",
+    "0 take, Acc not completing",
+    "0 take, stale Acc",
+    "0 take, Commit",
+    "0 take, from a stopped sender",
+    "0 answer, Acc",
+    "0 answer, Retry",
+    "0 answer, to a stopped unit",
+    "0 stop",
     "2 report",
     "2 take, sender",
+    "2 take, sender, receiver stopped",
     "2 take, receiver",
     "2 answer, who answers",
     "2 answer, to whom",
+    "2 answer, to whom, who answers stopped",
     "2 stop",
-    "2 fresh",
     "3 report",
+    "3 report, odd view",
     "3 take",
     "3 answer",
     "3 stop",
     "4 beyond n",
     "4 lacks its own",
+    "4 both",
     "5 empty line",
     "5 no record",
     "5 record of another view",
     "6 report",
+    "6 report, its line full",
     "6 Retry",
+    "6 Retry, its line full",
     "7 report",
     "7 Retry",
-    "7 Acc",
-    "7 answer",
-    "8 first line",
-    "8 later line",
-    "9 long sheet",
+    "7 answer, Acc",
+    "7 answer, Retry",
 ];
 
+/// The same, but only on systems that no run reaches.
+const HANDED_IN: &[&str] =
+    &["0 take, stale Acc completing", "0 take, Acc with nothing proposed", "7 Commit"];
+
+/// What images alone can show; FAULTS and DAMAGES too.
+const IMAGES: &[&str] = &["1 wrong length", "1 any bytes", "2 fresh"];
+
+/// What sheets alone can show; FIRST and LATER too.
+const SHEETS: &[&str] = &[
+    "8 any bytes",
+    "8 after a bad first line",
+    "8 good first line too late",
+    "9 one byte too many",
+    "9 many bytes too many",
+    "no line at all",
+    "40,000 bytes and more",
+    "60,000 bytes",
+    "no line feed at the end",
+    "buffer too short",
+    "buffer just long enough",
+    "buffer longer than needed",
+    "buffer of no bytes",
+];
+
+/// Where a way is met.
+#[derive(Clone, Copy, PartialEq, Eq, PartialOrd, Ord)]
+pub enum By {
+    Image,
+    Sheet,
+}
+
+/// The ways that have to be met.
+fn listed(by: By) -> BTreeSet<&'static str> {
+    let steps = STEPS.iter().copied();
+    match by {
+        By::Image => steps
+            .chain([HANDED_IN, IMAGES].concat())
+            .chain(FAULTS.iter().map(|fault| fault.0))
+            .chain(DAMAGES.iter().map(|damage| damage.0))
+            .collect(),
+        By::Sheet => steps
+            .chain(SHEETS.iter().copied())
+            .chain(FIRST.iter().chain(LATER).map(|kind| kind.0))
+            .collect(),
+    }
+}
+
 #[derive(Default)]
-pub struct Ways(BTreeMap<&'static str, u64>);
+pub struct Ways(BTreeMap<(By, &'static str), u64>);
 
 impl Ways {
-    pub fn count(&mut self, way: &'static str) {
-        assert!(WAYS.contains(&way), "{way} is not listed");
-        *self.0.entry(way).or_default() += 1;
+    pub fn count(&mut self, by: By, way: &'static str) {
+        *self.0.entry((by, way)).or_default() += 1;
     }
 
-    /// Prints each way with its count; answers whether all were met.
+    fn times(&self, by: By, way: &'static str) -> u64 {
+        self.0.get(&(by, way)).copied().unwrap_or(0)
+    }
+
+    /// Prints each way with its counts; answers whether all were met often enough.
     pub fn all_met(&self) -> bool {
-        for way in WAYS {
-            println!("{:>9}  {way}", self.0.get(way).unwrap_or(&0));
+        let (images, sheets) = (listed(By::Image), listed(By::Sheet));
+        for (by, way) in self.0.keys() {
+            assert!(listed(*by).contains(way), "{way} is not listed");
         }
-        WAYS.iter().all(|way| self.0.contains_key(way))
+        println!("by image  by sheet  way");
+        for way in images.union(&sheets) {
+            let [image, sheet] = [(By::Image, &images), (By::Sheet, &sheets)].map(|(by, ways)| {
+                match ways.contains(way) {
+                    true => self.times(by, way).to_string(),
+                    false => "-".into(),
+                }
+            });
+            println!("{image:>8}  {sheet:>8}  {way}");
+        }
+        images.iter().all(|way| self.times(By::Image, way) >= AT_LEAST)
+            && sheets.iter().all(|way| self.times(By::Sheet, way) >= AT_LEAST)
     }
 }
 
 /// The way by which a step on a sound system came to its number.
 pub fn way(before: &System, step: Step, number: u8) -> &'static str {
     match (step, number) {
-        (Step::Report { p, view }, 0) if least(view) == p => "report done, proposing",
-        (Step::Report { .. }, 0) => "report done, not least",
+        (Step::Report { p, view }, 0) if least(view) == p => "0 report, proposing",
+        (Step::Report { .. }, 0) => "0 report, not least",
         (Step::Receive { from, at }, 0) => taken(before, from, at),
-        (Step::Respond { p, to }, 0) => {
-            let process = before.process(p);
-            let record = process.recorded[usize::from(to.0) - 1].expect("a record");
-            if record.index < process.next {
-                "answer done, Retry"
-            } else {
-                "answer done, Acc"
-            }
+        (Step::Respond { to, .. }, 0) if before.process(to).crashed => {
+            "0 answer, to a stopped unit"
         }
-        (Step::Crash { .. }, 0) => "stop done",
+        (Step::Respond { p, to }, 0) => match accepts(before, p, to) {
+            true => "0 answer, Acc",
+            false => "0 answer, Retry",
+        },
+        (Step::Crash { .. }, 0) => "0 stop",
         (Step::Report { .. }, 2) => "2 report",
-        (Step::Receive { from, .. }, 2) if stranger(before, from) => "2 take, sender",
+        (Step::Receive { from, at }, 2) if stranger(before, from) => match stopped(before, at) {
+            true => "2 take, sender, receiver stopped",
+            false => "2 take, sender",
+        },
         (Step::Receive { .. }, 2) => "2 take, receiver",
         (Step::Respond { p, .. }, 2) if stranger(before, p) => "2 answer, who answers",
-        (Step::Respond { .. }, 2) => "2 answer, to whom",
+        (Step::Respond { p, .. }, 2) => match stopped(before, p) {
+            true => "2 answer, to whom, who answers stopped",
+            false => "2 answer, to whom",
+        },
         (Step::Crash { .. }, 2) => "2 stop",
-        (Step::Report { .. }, 3) => "3 report",
+        (Step::Report { p, view }, 3) => match odd(before, p, view) {
+            true => "3 report, odd view",
+            false => "3 report",
+        },
         (Step::Receive { .. }, 3) => "3 take",
         (Step::Respond { .. }, 3) => "3 answer",
         (Step::Crash { .. }, 3) => "3 stop",
-        (Step::Report { p, view }, 4) if view.0 >> (p.0 - 1) & 1 == 1 => "4 beyond n",
-        (Step::Report { .. }, 4) => "4 lacks its own",
+        (Step::Report { p, view }, 4) => {
+            match (view.is_subset(before.everyone()), view.contains(p)) {
+                (false, true) => "4 beyond n",
+                (true, _) => "4 lacks its own",
+                (false, false) => "4 both",
+            }
+        }
         (Step::Receive { .. }, 5) => "5 empty line",
-        (Step::Respond { p, to }, 5) => match before.process(p).recorded[usize::from(to.0) - 1] {
+        (Step::Respond { p, to }, 5) => match record(before, p, to) {
             None => "5 no record",
             Some(_) => "5 record of another view",
         },
-        (Step::Report { .. }, 6) => "6 report",
-        (Step::Receive { .. }, 6) => "6 Retry",
+        (Step::Report { p, .. }, 6) => match before.channel(p, p).is_full() {
+            true => "6 report, its line full",
+            false => "6 report",
+        },
+        (Step::Receive { from, at }, 6) => match from != at && before.channel(at, at).is_full() {
+            true => "6 Retry, its line full",
+            false => "6 Retry",
+        },
         (Step::Report { .. }, 7) => "7 report",
         (Step::Receive { from, at }, 7) => match before.channel(from, at).front() {
             Some(Message::Retry { .. }) => "7 Retry",
-            _ => "7 Acc",
+            _ => "7 Commit",
         },
-        (Step::Respond { .. }, 7) => "7 answer",
+        (Step::Respond { p, to }, 7) => match accepts(before, p, to) {
+            true => "7 answer, Acc",
+            false => "7 answer, Retry",
+        },
         (_, other) => panic!("{step:?} gave {other}"),
     }
 }
@@ -114,27 +204,45 @@ fn stranger(system: &System, p: ProcessId) -> bool {
     !(1..=system.n).contains(&p.0)
 }
 
+fn stopped(system: &System, p: ProcessId) -> bool {
+    !stranger(system, p) && system.process(p).crashed
+}
+
+fn odd(system: &System, p: ProcessId, view: View) -> bool {
+    !view.is_subset(system.everyone()) || !view.contains(p)
+}
+
 fn least(view: View) -> ProcessId {
-    ProcessId(if view.0 == 0 { 0 } else { 1 + view.0.trailing_zeros() as u8 })
+    view.min().unwrap_or(ProcessId(0))
+}
+
+fn record(system: &System, p: ProcessId, from: ProcessId) -> Option<reference::Proposal> {
+    system.process(p).recorded[usize::from(from.0) - 1]
+}
+
+fn accepts(system: &System, p: ProcessId, from: ProcessId) -> bool {
+    record(system, p, from).is_some_and(|record| record.index >= system.process(p).next)
 }
 
 fn taken(before: &System, from: ProcessId, at: ProcessId) -> &'static str {
     let process: &Process = before.process(at);
+    let complete = |marked: View| process.proposal.is_subset(marked);
     match before.channel(from, at).front().expect("a message") {
-        Message::Propose(_) => "take done, Propose",
+        _ if before.process(from).crashed => "0 take, from a stopped sender",
+        Message::Propose(_) => "0 take, Propose",
         Message::Retry { old, .. } if old == process.propout && least(process.view) == at => {
-            "take done, Retry acted on"
+            "0 take, Retry acted on"
         }
-        Message::Retry { .. } => "take done, Retry ignored",
-        Message::Acc(_) if process.proposal.0 == 0 => "take done, Acc with nothing proposed",
-        Message::Acc(index) if index != process.propout => "take done, stale Acc",
-        Message::Acc(_) => {
-            let marked = process.acks.0 | 1 << (from.0 - 1);
-            match process.proposal.0 & !marked {
-                0 => "take done, Acc completing",
-                _ => "take done, Acc not completing",
-            }
-        }
-        Message::Commit(_) => "take done, Commit",
+        Message::Retry { .. } => "0 take, Retry ignored",
+        Message::Acc(_) if process.proposal.is_empty() => "0 take, Acc with nothing proposed",
+        Message::Acc(index) if index != process.propout => match complete(process.acks) {
+            true => "0 take, stale Acc completing",
+            false => "0 take, stale Acc",
+        },
+        Message::Acc(_) => match complete(process.acks.with(from)) {
+            true => "0 take, Acc completing",
+            false => "0 take, Acc not completing",
+        },
+        Message::Commit(_) => "0 take, Commit",
     }
 }

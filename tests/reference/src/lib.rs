@@ -22,7 +22,7 @@ pub use channel::{Channel, CAPACITY};
 pub use message::{GroupIndex, Message, Proposal, LAST_INDEX};
 pub use process::{Process, POSITIONS};
 pub use refusal::{number, Outcome, Refusal};
-pub use sheet::{run_sheet, SHEET_LIMIT};
+pub use sheet::{run_sheet, run_sheet_onto, SHEET_LIMIT};
 pub use soundness::sound;
 pub use step::{crash, receive, report, respond, Step};
 pub use system::{fresh, System, MAX_PROCESSES};

@@ -10,15 +10,20 @@ pub const SHEET_LIMIT: usize = 60_000;
 
 /// Runs a sheet and gives what is printed for it.
 pub fn run_sheet(sheet: &[u8]) -> Vec<u8> {
-    let mut out = Vec::new();
+    let mut out = Vec::with_capacity(2 * sheet.len().min(SHEET_LIMIT));
+    run_sheet_onto(&mut out, sheet);
+    out
+}
+
+/// The same, appended to what `out` has.
+pub fn run_sheet_onto(out: &mut Vec<u8>, sheet: &[u8]) {
     if sheet.len() > SHEET_LIMIT {
-        print_outcome(&mut out, 0, Err(Refusal::LongSheet));
-        return out;
+        print_outcome(out, 0, Err(Refusal::LongSheet));
+        return;
     }
-    out.reserve(2 * sheet.len());
     let mut lines = lines(sheet).zip(1..);
     let Some((first, _)) = lines.next() else {
-        return out;
+        return;
     };
     match parse_size(first) {
         Some(n) => {
@@ -29,18 +34,17 @@ pub fn run_sheet(sheet: &[u8]) -> Vec<u8> {
                     Some(step) => step.run_on_sound(&mut system),
                     None => Err(Refusal::BadLine),
                 };
-                print_outcome(&mut out, line_number, outcome);
+                print_outcome(out, line_number, outcome);
             }
-            print_processes(&mut out, &system);
+            print_processes(out, &system);
         }
         None => {
-            print_outcome(&mut out, 1, Err(Refusal::BadLine));
+            print_outcome(out, 1, Err(Refusal::BadLine));
             for (_, line_number) in lines {
-                print_outcome(&mut out, line_number, Err(Refusal::BadLine));
+                print_outcome(out, line_number, Err(Refusal::BadLine));
             }
         }
     }
-    out
 }
 
 /// The lines, without their line feeds; the last may lack its own.

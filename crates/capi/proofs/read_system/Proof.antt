@@ -1,91 +1,68 @@
--- `capi::read_system`: after i turns the first i processes and rows are read.
-use Prim.Native.Nat.{_-_, _≤_}
-use mathlib.Core.Path.{_≡_, refl}
+-- `capi::read_system`: after i turns the first i processes are read; then, after j more, the first j channels.
+use Prim.Native.Nat.{_+_, _*_, _-_, _≤_, _<_}
+use mathlib.Core.Path.{_≡_, sym, subst}
+use mathlib.Core.Logic.{⊎-elim}
 use native.Mathlib.Omega.{arith}
-use lib.ListN.{length, take, drop, length-set}
-use Rattle.capi.specs.Image.{parts, processIn, rowIn}
-use Rattle.capi.proofs.Laws.{read-again, system-read}
+use Rattle.view.specs.Logic.{pick}
+use Rattle.channel.specs.Channel.{emptyChannel}
+use Rattle.system.specs.declared.System.{System}
+use Rattle.system.specs.Fresh.{freshSystem, freshOf}
+use Rattle.capi.proofs.Laws.{none-read, all-same, ReadUpTo, with-process, with-channel, without-channel, channel-of-zeros, system-read}
+use Rattle.capi.proofs.Calls.{start-shape}
 use borrow.Author.Needs.{needs}
 use Rattle.capi.proofs.read_system.Statement.{statement}
 use Rattle.capi.proofs.read_system.Tie as tie
 
 abbrev Inv-loop : tie.InvT-loop
-Inv-loop image processes₀ rows₀ i₀ processes rows i =
-    (i ≤ 8)
-    × (length processes ≡ 8)
-    × (length rows ≡ 8)
-    × (take i processes ≡ parts i 62 processIn (drop 1 image))
-    × (take i rows ≡ parts i 200 rowIn (drop 497 image))
+Inv-loop image s₀ i₀ s i = (i ≤ 8) × ReadUpTo image i 0 s
 
 abbrev μ-loop : tie.MeasureT-loop
-μ-loop image processes₀ rows₀ i₀ processes rows i = 8 - i
+μ-loop image s₀ i₀ s i = 8 - i
 
-read-process-requires : tie.Need-read-process-requires Inv-loop μ-loop
-read-process-requires c κs = search needs
+abbrev Inv-loop2 : tie.InvT-loop2
+Inv-loop2 image s₀ i j₀ s j = (j ≤ 64) × ReadUpTo image 8 j s
 
-read-row-requires : tie.Need-read-row-requires Inv-loop μ-loop
-read-row-requires c κs = search needs
+abbrev μ-loop2 : tie.MeasureT-loop2
+μ-loop2 image s₀ i j₀ s j = 64 - j
 
-loop-holds : tie.Need-loop-holds Inv-loop μ-loop
-unfolding parts
-loop-holds c = (omega arith, refl, refl, refl, refl)
+loop-holds : tie.Need-loop-holds Inv-loop μ-loop Inv-loop2 μ-loop2
+unfolding freshOf freshSystem pick
+loop-holds c =
+    let shape = start-shape 0 in
+    let t = c .before .fresh .result .system in
+    let fresh = c .before .fresh .ensures in
+    (omega arith, (rw fresh (shape .processes), rw fresh (shape .channels), none-read (t .processes) _ _ _, none-read (t .channels) _ _ _, λ k past. rw fresh (all-same 64 k emptyChannel)))
 
-mul-read-process : tie.Need-mul-read-process Inv-loop μ-loop
-mul-read-process c = search needs
-
-add-read-process : tie.Need-add-read-process Inv-loop μ-loop
-add-read-process c = search needs
-
-read-process-requires-2 : tie.Need-read-process-requires-2 Inv-loop μ-loop
-read-process-requires-2 c κs = search needs
-
-mul-processes : tie.Need-mul-processes Inv-loop μ-loop
-mul-processes c = search needs
-
-array-set-from-processes : tie.Need-array-set-from-processes Inv-loop μ-loop
-array-set-from-processes c = search needs
-
-mul-read-row : tie.Need-mul-read-row Inv-loop μ-loop
-mul-read-row c = search needs
-
-add-read-row : tie.Need-add-read-row Inv-loop μ-loop
-add-read-row c = search needs
-
-read-row-requires-2 : tie.Need-read-row-requires-2 Inv-loop μ-loop
-read-row-requires-2 c κs = search needs
-
-mul-rows : tie.Need-mul-rows Inv-loop μ-loop
-mul-rows c = search needs
-
-array-set-from-rows : tie.Need-array-set-from-rows Inv-loop μ-loop
-array-set-from-rows c = search needs
-
-add-i : tie.Need-add-i Inv-loop μ-loop
-add-i c = search needs
-
-loop-less : tie.Need-loop-less Inv-loop μ-loop
-loop-less c = search needs
-
-loop-again : tie.Need-loop-again Inv-loop μ-loop
+loop-again : tie.Need-loop-again Inv-loop μ-loop Inv-loop2 μ-loop2
 loop-again c =
-    let a = c .before .before .before .before .before .before .before .args in
-    let l = c .before .before .before .loop in (
-      omega arith,
-      simp length-set (l .inv .1),
-      simp length-set (l .inv .2),
-      read-again _ _ (l .i) 62 1 processIn (a .image .now) (omega arith) (l .inv .3) (c .before .read-process2 .ensures),
-      read-again _ _ (l .i) 200 497 rowIn (a .image .now) (omega arith) (l .inv .4) (c .read-row2 .ensures),
-    )
+    let l = c .before .before in
+    let b = l .before .before .before .before .args .image .now in
+    (omega arith, with-process b (l .loop .i) 0 (l .loop .s) _ (omega arith) (l .loop .inv .1) (c .read-process .ensures))
 
-byte-at-requires : tie.Need-byte-at-requires Inv-loop μ-loop
-byte-at-requires c κs = search needs
+loop2-holds : tie.Need-loop2-holds Inv-loop μ-loop Inv-loop2 μ-loop2
+loop2-holds c =
+    let end : c .before .loop .i ≡ 8 = omega arith in
+    (omega arith, rw end at (c .before .loop .inv .1))
 
-returns : tie.Need-returns Inv-loop μ-loop
+loop2-again : tie.Need-loop2-again Inv-loop μ-loop Inv-loop2 μ-loop2
+loop2-again c =
+    let l = c .before .before .before in
+    let b = l .before .before .before .before .before .before .args .image .now in
+    let j = l .loop2 .j in
+    let Next : System → Type 0 = λ t. (j + 1 ≤ 64) × ReadUpTo b 8 (j + 1) t in
+    let h : j < 64 = omega arith in
+    ⊎-elim
+    (λ w. subst Next (sym (w .2)) (omega arith, with-channel b 8 j (l .loop2 .s) _ h (l .loop2 .inv .1) (w .1 .ensures)))
+    (λ w. subst Next (sym (w .1)) (omega arith, without-channel b 8 j (l .loop2 .s) h (l .loop2 .inv .1) (channel-of-zeros _ (497 + 25 * j) b (omega arith) (c .before .any-above .ensures) (w .0 .left))))
+    (c .if1 .came)
+
+returns : tie.Need-returns Inv-loop μ-loop Inv-loop2 μ-loop2
 returns c =
-    let a = c .before .before .before .before .before .before .args in
-    let l = c .before .before .loop .inv in
-    let end : c .before .before .loop .i ≡ 8 = omega arith in
-    system-read _ _ _ (a .image .now) (l .1) (l .2) (rw end at (l .3)) (rw end at (l .4)) (c .byte-at .ensures)
+    let l = c .before .before in
+    let b = l .before .before .before .before .before .before .args .image .now in
+    let end : l .loop2 .j ≡ 64 = omega arith in
+    let all = l .loop2 .inv .1 in
+    system-read _ _ _ b (all .0) (all .1) (all .2) (rw end at (all .3)) (c .byte-at .ensures)
 
 pub read-system-spec : {M : Type 1} → statement M
 read-system-spec =
@@ -93,21 +70,29 @@ read-system-spec =
     (tie.spec
     Inv-loop
     μ-loop
-    read-process-requires
-    read-row-requires
+    Inv-loop2
+    μ-loop2
+    (λ c κs. search needs)
     loop-holds
-    mul-read-process
-    add-read-process
-    read-process-requires-2
-    mul-processes
-    array-set-from-processes
-    mul-read-row
-    add-read-row
-    read-row-requires-2
-    mul-rows
-    array-set-from-rows
-    add-i
-    loop-less
+    (λ c. search needs)
+    (λ c. search needs)
+    (λ c κs. search needs)
+    (λ c. search needs)
+    (λ c. search needs)
+    (λ c. search needs)
+    (λ c. search needs)
     loop-again
-    byte-at-requires
+    loop2-holds
+    (λ c. search needs)
+    (λ c. search needs)
+    (λ c κs. search needs)
+    (λ c. search needs)
+    (λ c. search needs)
+    (λ c κs. search needs)
+    (λ c. search needs)
+    (λ c. search needs)
+    (λ c. search needs)
+    (λ c. search needs)
+    loop2-again
+    (λ c κs. search needs)
     returns)

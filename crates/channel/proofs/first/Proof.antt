@@ -9,9 +9,6 @@ use Rattle.channel.proofs.Laws.{front-waits}
 use Rattle.channel.proofs.first.Statement.{statement}
 use Rattle.channel.proofs.first.Tie as tie
 
-element-copy-out-s : tie.Need-element-copy-out-s
-element-copy-out-s c = search needs
-
 returns : tie.Need-returns
 returns c =
     let e : length (c .before .before .args .t1 .slots) ≡ 8 = search (long) in
@@ -22,4 +19,4 @@ unfolding waiting
 returns-2 c = let e : c .before .args .t1 .len ≡ 0 = omega arith in rw e
 
 pub first-spec : {M : Type 1} → statement M
-first-spec = tie.close (tie.spec element-copy-out-s returns returns-2)
+first-spec = tie.close (tie.spec (λ c. search needs) returns returns-2)

@@ -10,30 +10,6 @@ use borrow.Author.Needs.{needs}
 use Rattle.channel.proofs.pop.Statement.{statement}
 use Rattle.channel.proofs.pop.Tie as tie
 
-element-copy-out-b : tie.Need-element-copy-out-b
-element-copy-out-b c = search needs
-
-element-copy-out-d : tie.Need-element-copy-out-d
-element-copy-out-d c = search needs
-
-element-copy-out-e : tie.Need-element-copy-out-e
-element-copy-out-e c = search needs
-
-element-copy-out-f : tie.Need-element-copy-out-f
-element-copy-out-f c = search needs
-
-element-copy-out-g : tie.Need-element-copy-out-g
-element-copy-out-g c = search needs
-
-element-copy-out-h : tie.Need-element-copy-out-h
-element-copy-out-h c = search needs
-
-element-copy-out-i : tie.Need-element-copy-out-i
-element-copy-out-i c = search needs
-
-sub-t32 : tie.Need-sub-t32
-sub-t32 c = search needs
-
 returns : tie.Need-returns
 unfolding popped pick
 returns c =
@@ -49,13 +25,13 @@ pub pop-spec : {M : Type 1} → statement M
 pop-spec =
     tie.close
     (tie.spec
-    element-copy-out-b
-    element-copy-out-d
-    element-copy-out-e
-    element-copy-out-f
-    element-copy-out-g
-    element-copy-out-h
-    element-copy-out-i
-    sub-t32
+    (λ c. search needs)
+    (λ c. search needs)
+    (λ c. search needs)
+    (λ c. search needs)
+    (λ c. search needs)
+    (λ c. search needs)
+    (λ c. search needs)
+    (λ c. search needs)
     returns
     returns-2)

@@ -6,18 +6,6 @@ use borrow.Author.Needs.{needs}
 use Rattle.channel.proofs.push.Statement.{statement}
 use Rattle.channel.proofs.push.Tie as tie
 
-cast-t7 : tie.Need-cast-t7
-cast-t7 c = search needs
-
-mul-t8 : tie.Need-mul-t8
-mul-t8 c = search needs
-
-element-set-from-next : tie.Need-element-set-from-next
-element-set-from-next c = search needs
-
-add-next : tie.Need-add-next
-add-next c = search needs
-
 returns : tie.Need-returns
 unfolding pushed pick
 returns c = simp (lt-ltb _ _ (c .if1 .taken))
@@ -27,4 +15,4 @@ unfolding pushed pick
 returns-2 c = simp (le-ltb _ _ (c .if1 .left))
 
 pub push-spec : {M : Type 1} → statement M
-push-spec = tie.close (tie.spec cast-t7 mul-t8 element-set-from-next add-next returns returns-2)
+push-spec = tie.close (tie.spec (λ c. search needs) (λ c. search needs) (λ c. search needs) (λ c. search needs) returns returns-2)

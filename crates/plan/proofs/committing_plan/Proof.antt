@@ -5,21 +5,6 @@ use borrow.Author.Needs.{needs}
 use Rattle.plan.proofs.committing_plan.Statement.{statement}
 use Rattle.plan.proofs.committing_plan.Tie as tie
 
-subset-requires : tie.Need-subset-requires
-subset-requires c κs = search needs
-
-and-requires : tie.Need-and-requires
-and-requires c κs = search needs
-
-with-acks-requires : tie.Need-with-acks-requires
-with-acks-requires c κs = search needs
-
-sending-requires : tie.Need-sending-requires
-sending-requires c κs = search needs
-
-quietly-requires : tie.Need-quietly-requires
-quietly-requires c κs = search needs
-
 returns : tie.Need-returns
 unfolding committingPlan pick
 returns c =
@@ -39,10 +24,10 @@ pub committing-plan-spec : {M : Type 1} → statement M
 committing-plan-spec =
     tie.close
     (tie.spec
-    subset-requires
-    and-requires
-    with-acks-requires
-    sending-requires
-    quietly-requires
+    (λ c κs. search needs)
+    (λ c κs. search needs)
+    (λ c κs. search needs)
+    (λ c κs. search needs)
+    (λ c κs. search needs)
     returns
     returns-2)

@@ -5,12 +5,6 @@ use borrow.Author.Needs.{needs}
 use Rattle.plan.proofs.marked.Statement.{statement}
 use Rattle.plan.proofs.marked.Tie as tie
 
-with-requires : tie.Need-with-requires
-with-requires c κs = search needs
-
-with-acks-requires : tie.Need-with-acks-requires
-with-acks-requires c κs = search needs
-
 returns : tie.Need-returns
 unfolding pick
 returns c = simp (c .with-acks .ensures, c .before .with .ensures, eq-eqb _ _ (c .before .before .if1 .taken))
@@ -20,4 +14,4 @@ unfolding pick
 returns-2 c = simp (ne-eqb _ _ (c .if1 .left))
 
 pub marked-spec : {M : Type 1} → statement M
-marked-spec = tie.close (tie.spec with-requires with-acks-requires returns returns-2)
+marked-spec = tie.close (tie.spec (λ c κs. search needs) (λ c κs. search needs) returns returns-2)

@@ -2,60 +2,10 @@
 use borrow.Author.Tests.{le-leb, lt-leb}
 use Rattle.view.specs.Logic.{pick}
 use Rattle.plan.specs.Plan.{messagePlan}
+use Rattle.plan.specs.Fields.{withHistory}
 use borrow.Author.Needs.{needs}
 use Rattle.plan.proofs.message_plan.Statement.{statement}
 use Rattle.plan.proofs.message_plan.Tie as tie
-
-enum-known-m : tie.Need-enum-known-m
-enum-known-m c = search needs
-
-with-pending-requires : tie.Need-with-pending-requires
-with-pending-requires c κs = search needs
-
-quietly-requires : tie.Need-quietly-requires
-quietly-requires c κs = search needs
-
-enum-known-m-2 : tie.Need-enum-known-m-2
-enum-known-m-2 c = search needs
-
-least-requires : tie.Need-least-requires
-least-requires c κs = search needs
-
-and-requires : tie.Need-and-requires
-and-requires c κs = search needs
-
-reproposing-requires : tie.Need-reproposing-requires
-reproposing-requires c κs = search needs
-
-sending-requires : tie.Need-sending-requires
-sending-requires c κs = search needs
-
-refusing-requires : tie.Need-refusing-requires
-refusing-requires c κs = search needs
-
-quietly-requires-2 : tie.Need-quietly-requires-2
-quietly-requires-2 c κs = search needs
-
-enum-known-m-3 : tie.Need-enum-known-m-3
-enum-known-m-3 c = search needs
-
-marked-requires : tie.Need-marked-requires
-marked-requires c κs = search needs
-
-committing-plan-requires : tie.Need-committing-plan-requires
-committing-plan-requires c κs = search needs
-
-enum-known-m-4 : tie.Need-enum-known-m-4
-enum-known-m-4 c = search needs
-
-with-entry-requires : tie.Need-with-entry-requires
-with-entry-requires c κs = search needs
-
-with-history-requires : tie.Need-with-history-requires
-with-history-requires c κs = search needs
-
-quietly-requires-3 : tie.Need-quietly-requires-3
-quietly-requires-3 c κs = search needs
 
 returns : tie.Need-returns
 unfolding messagePlan
@@ -102,36 +52,29 @@ unfolding messagePlan
 returns-5 c = simp (c .before .before .before .m3 .given .1, c .committing-plan .ensures, c .before .marked .ensures)
 
 returns-6 : tie.Need-returns-6
-unfolding messagePlan
-returns-6 c =
-    simp (
-      c .before .before .before .before .before .m4 .given .1,
-      c .quietly3 .ensures,
-      c .before .with-history .ensures,
-      c .before .before .with-entry .ensures,
-    )
+unfolding messagePlan withHistory
+returns-6 c = simp (c .before .before .before .before .m4 .given .1, c .quietly3 .ensures, c .before .with-entry .ensures)
 
 pub message-plan-spec : {M : Type 1} → statement M
 message-plan-spec =
     tie.close
     (tie.spec
-    enum-known-m
-    with-pending-requires
-    quietly-requires
-    enum-known-m-2
-    least-requires
-    and-requires
-    reproposing-requires
-    sending-requires
-    refusing-requires
-    quietly-requires-2
-    enum-known-m-3
-    marked-requires
-    committing-plan-requires
-    enum-known-m-4
-    with-entry-requires
-    with-history-requires
-    quietly-requires-3
+    (λ c. search needs)
+    (λ c κs. search needs)
+    (λ c κs. search needs)
+    (λ c. search needs)
+    (λ c κs. search needs)
+    (λ c κs. search needs)
+    (λ c κs. search needs)
+    (λ c κs. search needs)
+    (λ c κs. search needs)
+    (λ c κs. search needs)
+    (λ c. search needs)
+    (λ c κs. search needs)
+    (λ c κs. search needs)
+    (λ c. search needs)
+    (λ c κs. search needs)
+    (λ c κs. search needs)
     returns
     returns-2
     returns-3

@@ -6,39 +6,6 @@ use borrow.Author.Needs.{needs}
 use Rattle.plan.proofs.report_plan.Statement.{statement}
 use Rattle.plan.proofs.report_plan.Tie as tie
 
-within-requires : tie.Need-within-requires
-within-requires c κs = search needs
-
-has-requires : tie.Need-has-requires
-has-requires c κs = search needs
-
-and-requires : tie.Need-and-requires
-and-requires c κs = search needs
-
-least-requires : tie.Need-least-requires
-least-requires c κs = search needs
-
-add-t15 : tie.Need-add-t15
-add-t15 c = search needs
-
-proposing-requires : tie.Need-proposing-requires
-proposing-requires c κs = search needs
-
-sending-requires : tie.Need-sending-requires
-sending-requires c κs = search needs
-
-refusing-requires : tie.Need-refusing-requires
-refusing-requires c κs = search needs
-
-with-view-requires : tie.Need-with-view-requires
-with-view-requires c κs = search needs
-
-quietly-requires : tie.Need-quietly-requires
-quietly-requires c κs = search needs
-
-refusing-requires-2 : tie.Need-refusing-requires-2
-refusing-requires-2 c κs = search needs
-
 returns : tie.Need-returns
 unfolding reportPlan pick
 returns c =
@@ -97,17 +64,17 @@ pub report-plan-spec : {M : Type 1} → statement M
 report-plan-spec =
     tie.close
     (tie.spec
-    within-requires
-    has-requires
-    and-requires
-    least-requires
-    add-t15
-    proposing-requires
-    sending-requires
-    refusing-requires
-    with-view-requires
-    quietly-requires
-    refusing-requires-2
+    (λ c κs. search needs)
+    (λ c κs. search needs)
+    (λ c κs. search needs)
+    (λ c κs. search needs)
+    (λ c. search needs)
+    (λ c κs. search needs)
+    (λ c κs. search needs)
+    (λ c κs. search needs)
+    (λ c κs. search needs)
+    (λ c κs. search needs)
+    (λ c κs. search needs)
     returns
     returns-2
     returns-3

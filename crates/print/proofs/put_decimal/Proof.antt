@@ -1,18 +1,28 @@
--- `print::put_decimal`: twenty digits at most.
+-- `print::put_decimal`: one digit, or twenty at most.
+use borrow.Author.Tests.{lt-ltb}
+use Rattle.view.specs.Logic.{pick}
+use Rattle.print.specs.Text.{digits, decimal}
 use borrow.Author.Needs.{needs}
-use Rattle.print.specs.Text.{decimal}
 use Rattle.print.proofs.put_decimal.Statement.{statement}
 use Rattle.print.proofs.put_decimal.Tie as tie
 
-put-digits-requires : tie.Need-put-digits-requires
-put-digits-requires c κs = search needs
-
-same-length : tie.Need-same-length
-same-length c = search needs
-
 returns : tie.Need-returns
+unfolding decimal digits pick
+returns c = rw (lt-ltb _ _ (c .before .before .before .before .if1 .taken)) (c .before .before .put-byte .ensures)
+
+returns-2 : tie.Need-returns-2
 unfolding decimal
-returns c = c .before .before .put-digits .ensures
+returns-2 c = c .before .before .put-digits .ensures
 
 pub put-decimal-spec : {M : Type 1} → statement M
-put-decimal-spec = tie.close (tie.spec put-digits-requires same-length returns)
+put-decimal-spec =
+    tie.close
+    (tie.spec
+    (λ c. search needs)
+    (λ c. search needs)
+    (λ c κs. search needs)
+    (λ c κs. search needs)
+    (λ c. search needs)
+    returns
+    (λ c. search needs)
+    returns-2)

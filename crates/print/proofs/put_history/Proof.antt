@@ -20,15 +20,6 @@ loop-holds : tie.Need-loop-holds Inv-loop μ-loop
 unfolding textUpTo
 loop-holds c = (omega arith, nothing-typed _)
 
-add-i : tie.Need-add-i Inv-loop μ-loop
-add-i c = search needs
-
-entry-at-requires : tie.Need-entry-at-requires Inv-loop μ-loop
-entry-at-requires c κs = search needs
-
-put-entry-requires : tie.Need-put-entry-requires Inv-loop μ-loop
-put-entry-requires c κs = search needs
-
 loop-less : tie.Need-loop-less Inv-loop μ-loop
 loop-less c = omega arith
 
@@ -51,9 +42,9 @@ put-history-spec =
     Inv-loop
     μ-loop
     loop-holds
-    add-i
-    entry-at-requires
-    put-entry-requires
+    (λ c. search needs)
+    (λ c κs. search needs)
+    (λ c κs. search needs)
     loop-less
     loop-again
     same-length

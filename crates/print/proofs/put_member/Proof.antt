@@ -1,6 +1,6 @@
 -- `print::put_member`: the digit of a process that the view names.
 use borrow.Author.Needs.{needs}
-use mathlib.Core.Path.{_≡_, ap, sym, _∙_}
+use mathlib.Core.Path.{sym, _∙_}
 use native.Mathlib.Omega.{arith}
 use Rattle.view.specs.Logic.{pick}
 use Rattle.print.specs.Text.{memberText}
@@ -8,18 +8,9 @@ use Rattle.print.proofs.Laws.{nothing-typed, small-member}
 use Rattle.print.proofs.put_member.Statement.{statement}
 use Rattle.print.proofs.put_member.Tie as tie
 
-has-requires : tie.Need-has-requires
-has-requires c κs = search needs
-
 add-put-byte : tie.Need-add-put-byte
 add-put-byte c = let a = c .before .before .before .before .before .args in
     omega (arith, small-member (a .view) (a .p .0) (sym (c .before .before .before .has .ensures) ∙ c .before .before .if1 .taken))
-
-put-byte-requires : tie.Need-put-byte-requires
-put-byte-requires c κs = search needs
-
-same-length : tie.Need-same-length
-same-length c = search needs
 
 returns : tie.Need-returns
 unfolding memberText pick
@@ -31,4 +22,4 @@ returns-2 c = rw (← c .before .has .ensures, c .if1 .left) (nothing-typed _)
 
 pub put-member-spec : {M : Type 1} → statement M
 put-member-spec =
-    tie.close (tie.spec has-requires add-put-byte put-byte-requires same-length returns returns-2)
+    tie.close (tie.spec (λ c κs. search needs) add-put-byte (λ c κs. search needs) (λ c. search needs) returns returns-2)

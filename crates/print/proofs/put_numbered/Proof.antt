@@ -6,27 +6,6 @@ use Rattle.print.proofs.Laws.{in-turn}
 use Rattle.print.proofs.put_numbered.Statement.{statement}
 use Rattle.print.proofs.put_numbered.Tie as tie
 
-put-decimal-requires : tie.Need-put-decimal-requires
-put-decimal-requires c κs = search needs
-
-slice-aggregate-put-text : tie.Need-slice-aggregate-put-text
-slice-aggregate-put-text c = search needs
-
-put-text-requires : tie.Need-put-text-requires
-put-text-requires c κs = search needs
-
-put-decimal-requires-2 : tie.Need-put-decimal-requires-2
-put-decimal-requires-2 c κs = search needs
-
-slice-aggregate-put-text-2 : tie.Need-slice-aggregate-put-text-2
-slice-aggregate-put-text-2 c = search needs
-
-put-text-requires-2 : tie.Need-put-text-requires-2
-put-text-requires-2 c κs = search needs
-
-same-length : tie.Need-same-length
-same-length c = search needs
-
 returns : tie.Need-returns
 unfolding numberedLine bytes
 returns c =
@@ -42,11 +21,11 @@ pub put-numbered-spec : {M : Type 1} → statement M
 put-numbered-spec =
     tie.close
     (tie.spec
-    put-decimal-requires
-    slice-aggregate-put-text
-    put-text-requires
-    put-decimal-requires-2
-    slice-aggregate-put-text-2
-    put-text-requires-2
-    same-length
+    (λ c κs. search needs)
+    (λ c. search needs)
+    (λ c κs. search needs)
+    (λ c κs. search needs)
+    (λ c. search needs)
+    (λ c κs. search needs)
+    (λ c. search needs)
     returns)

@@ -1,7 +1,7 @@
 -- `print::put_text`: after i turns the first i bytes are typed.
 use borrow.Author.Needs.{needs}
 use Prim.Native.Nat.{_≤_, _-_}
-use mathlib.Core.Path.{_≡_, ap, _∙_}
+use mathlib.Core.Path.{_≡_}
 use native.Mathlib.Omega.{arith}
 use lib.ListN.{length, take}
 use lib.Seq.{take-all}
@@ -21,9 +21,6 @@ loop-holds c = (omega arith, nothing-typed _)
 
 shared-slice-read-put-byte : tie.Need-shared-slice-read-put-byte Inv-loop μ-loop
 shared-slice-read-put-byte c = omega arith
-
-put-byte-requires : tie.Need-put-byte-requires Inv-loop μ-loop
-put-byte-requires c κs = search needs
 
 add-i : tie.Need-add-i Inv-loop μ-loop
 add-i c = omega arith
@@ -48,7 +45,7 @@ put-text-spec =
     μ-loop
     loop-holds
     shared-slice-read-put-byte
-    put-byte-requires
+    (λ c κs. search needs)
     add-i
     loop-less
     loop-again

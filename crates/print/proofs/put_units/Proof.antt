@@ -21,27 +21,9 @@ Inv-loop out₀ at s n next₀ i₀ out next i = (i ≤ n)
 abbrev μ-loop : tie.MeasureT-loop
 μ-loop out₀ at s n next₀ i₀ out next i = n - i
 
-lesser-requires : tie.Need-lesser-requires Inv-loop μ-loop
-lesser-requires c κs = search needs
-
 loop-holds : tie.Need-loop-holds Inv-loop μ-loop
 unfolding textUpTo
 loop-holds c = (omega arith, omega arith, (search long), nothing-typed _)
-
-cast-k : tie.Need-cast-k Inv-loop μ-loop
-cast-k c = search needs
-
-mul-p : tie.Need-mul-p Inv-loop μ-loop
-mul-p c = search needs
-
-element-copy-out-p : tie.Need-element-copy-out-p Inv-loop μ-loop
-element-copy-out-p c = search needs
-
-add-i : tie.Need-add-i Inv-loop μ-loop
-add-i c = search needs
-
-put-unit-requires : tie.Need-put-unit-requires Inv-loop μ-loop
-put-unit-requires c κs = search needs
 
 loop-less : tie.Need-loop-less Inv-loop μ-loop
 loop-less c = omega arith
@@ -68,13 +50,13 @@ put-units-spec =
     (tie.spec
     Inv-loop
     μ-loop
-    lesser-requires
+    (λ c κs. search needs)
     loop-holds
-    cast-k
-    mul-p
-    element-copy-out-p
-    add-i
-    put-unit-requires
+    (λ c. search needs)
+    (λ c. search needs)
+    (λ c. search needs)
+    (λ c. search needs)
+    (λ c κs. search needs)
     loop-less
     loop-again
     same-length

@@ -1,7 +1,7 @@
 -- `print::put_view`: after i turns the members up to process i are typed.
 use borrow.Author.Needs.{needs}
 use Prim.Native.Nat.{_≤_, _-_}
-use mathlib.Core.Path.{_≡_, ap, sym, _∙_}
+use mathlib.Core.Path.{_≡_}
 use native.Mathlib.Omega.{arith}
 use Rattle.print.specs.Text.{textUpTo, memberText, viewText}
 use Rattle.print.specs.Page.{page, typed}
@@ -18,15 +18,6 @@ abbrev μ-loop : tie.MeasureT-loop
 loop-holds : tie.Need-loop-holds Inv-loop μ-loop
 unfolding textUpTo
 loop-holds c = (omega arith, nothing-typed _)
-
-add-i : tie.Need-add-i Inv-loop μ-loop
-add-i c = search needs
-
-put-member-requires : tie.Need-put-member-requires Inv-loop μ-loop
-put-member-requires c κs = search needs
-
-loop-less : tie.Need-loop-less Inv-loop μ-loop
-loop-less c = search needs
 
 loop-again : tie.Need-loop-again Inv-loop μ-loop
 loop-again c = (omega arith, text-again _ _ _ _ _ (c .before .before .before .before .before .loop .inv .1) (c .before .before .put-member .ensures))
@@ -46,9 +37,9 @@ put-view-spec =
     Inv-loop
     μ-loop
     loop-holds
-    add-i
-    put-member-requires
-    loop-less
+    (λ c. search needs)
+    (λ c κs. search needs)
+    (λ c. search needs)
     loop-again
     same-length
     returns)

@@ -26,9 +26,6 @@ abbrev μ-loop : tie.MeasureT-loop
 loop-holds : tie.Need-loop-holds Inv-loop μ-loop
 loop-holds c = (c .before .before .pre, omega arith, refl, refl)
 
-read-line-requires : tie.Need-read-line-requires Inv-loop μ-loop
-read-line-requires c κs = search needs
-
 enum-told : tie.Need-enum-told Inv-loop μ-loop
 enum-told c = search needs
 
@@ -40,15 +37,9 @@ returns c =
     let l = c .before .before .before .loop in
     bad-end _ _ (c .before .before .before .before .before .before .args .sheet .now) (l .at) _ (end-found _ _ (sym (c .before .before .read-line .ensures) ∙ c .enum-told .given .1)) (l .inv .2)
 
-enum-known-start : tie.Need-enum-known-start Inv-loop μ-loop
-enum-known-start c = search needs
-
 -- the line that was found
 cut : (c : tie.After-known-told Inv-loop μ-loop) → Cut (c .before .before .before .before .before .before .before .args .sheet .now) (c .before .before .before .before .loop .at) (c .before .start .given .0 .0) (c .before .start .given .0 .1 .0) (c .before .start .given .0 .1 .1 .0)
 cut c = line-found _ _ _ _ _ (sym (c .before .before .before .read-line .ensures) ∙ c .before .start .given .1)
-
-put-numbered-requires : tie.Need-put-numbered-requires Inv-loop μ-loop
-put-numbered-requires c κs = search needs
 
 add-line : tie.Need-add-line Inv-loop μ-loop
 add-line c =
@@ -75,12 +66,12 @@ all-bad-spec =
     Inv-loop
     μ-loop
     loop-holds
-    read-line-requires
+    (λ c κs. search needs)
     enum-told
     same-length
     returns
-    enum-known-start
-    put-numbered-requires
+    (λ c. search needs)
+    (λ c κs. search needs)
     add-line
     loop-less
     loop-again)

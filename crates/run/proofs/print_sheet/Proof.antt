@@ -2,7 +2,7 @@
 use borrow.Author.Needs.{needs}
 use Prim.Native.Nat.{ℕ, _≤_}
 use mathlib.Core.Path.{_≡_, sym, _∙_, ap, subst}
-use mathlib.Core.List.{List, _++_}
+use mathlib.Core.List.{_++_}
 use native.Mathlib.Omega.{arith}
 use native.Mathlib.Nat.{zero-add}
 use lib.ListN.{length, drop}
@@ -12,9 +12,6 @@ use Rattle.run.specs.Output.{output}
 use Rattle.run.proofs.Bounds.{output-length}
 use Rattle.run.proofs.print_sheet.Statement.{statement}
 use Rattle.run.proofs.print_sheet.Tie as tie
-
-run-sheet-requires : tie.Need-run-sheet-requires
-run-sheet-requires c κs = search needs
 
 returns : tie.Need-returns
 returns c =
@@ -30,4 +27,4 @@ returns c =
     )
 
 pub print-sheet-spec : {M : Type 1} → statement M
-print-sheet-spec = tie.close (tie.spec run-sheet-requires returns)
+print-sheet-spec = tie.close (tie.spec (λ c κs. search needs) returns)

@@ -8,27 +8,12 @@ use borrow.Author.Needs.{needs}
 use Rattle.run.proofs.run_sheet.Statement.{statement}
 use Rattle.run.proofs.run_sheet.Tie as tie
 
-slice-aggregate-put-text : tie.Need-slice-aggregate-put-text
-slice-aggregate-put-text c = search needs
-
-put-text-requires : tie.Need-put-text-requires
-put-text-requires c κs = search needs
-
-same-length : tie.Need-same-length
-same-length c = search needs
-
 returns : tie.Need-returns
 unfolding bytes
 returns c = c .before .before .put-text .ensures ∙ ap (typed _) (sym (output-long _ (c .before .before .before .before .before .if1 .taken)))
 
-read-line-requires : tie.Need-read-line-requires
-read-line-requires c κs = search needs
-
 enum-told : tie.Need-enum-told
 enum-told c = search needs
-
-enum-known-start : tie.Need-enum-known-start
-enum-known-start c = search needs
 
 -- the first line
 cut : (c : tie.After-known-told) → Cut (c .before .before .before .before .before .before .before .args .sheet .now) 0 (c .before .start .given .0 .0) (c .before .start .given .0 .1 .0) (c .before .start .given .0 .1 .1 .0)
@@ -43,27 +28,12 @@ part-parse-start c = cut c .ordered
 part-parse-end : tie.Need-part-parse-end
 part-parse-end c = cut c .within
 
-parse-requires : tie.Need-parse-requires
-parse-requires c κs = search needs
-
-size-in-requires : tie.Need-size-in-requires
-size-in-requires c κs = search needs
-
-fresh-requires : tie.Need-fresh-requires
-fresh-requires c κs = search needs
-
 answers-requires : tie.Need-answers-requires
 answers-requires c κs = (started-valid _ _ (c .before .before .before .before .fresh .ensures) (c .before .before .if2 .taken), c .before .before .before .before .before .before .before .before .before .before .before .before .if1 .left)
-
-all-bad-requires : tie.Need-all-bad-requires
-all-bad-requires c κs = search needs
 
 returns-2 : tie.Need-returns-2
 unfolding typed
 returns-2 c = ap (typed _) (sym (output-none _ (c .before .before .before .if1 .left) (end-found _ _ (sym (c .before .before .read-line .ensures) ∙ c .enum-told .given .1))))
-
-same-length-2 : tie.Need-same-length-2
-same-length-2 c = search needs
 
 returns-3 : tie.Need-returns-3
 returns-3 c =
@@ -71,9 +41,6 @@ returns-3 c =
     ∙ ap (typed _)
     (sym
     (output-started _ _ _ _ _ _ _ (c .before .before .before .before .before .before .before .before .before .before .before .before .before .before .before .if1 .left) (cut (c .before .before .before .before .before .before .before .before .before .before .before)) (c .before .before .before .before .before .before .before .before .before .parse .ensures) (c .before .before .before .before .before .before .before .before .size-in .ensures) (c .before .before .before .before .before .before .before .fresh .ensures) (c .before .before .before .before .before .if2 .taken)))
-
-same-length-3 : tie.Need-same-length-3
-same-length-3 c = search needs
 
 returns-4 : tie.Need-returns-4
 returns-4 c =
@@ -86,23 +53,23 @@ pub run-sheet-spec : {M : Type 1} → statement M
 run-sheet-spec =
     tie.close
     (tie.spec
-    slice-aggregate-put-text
-    put-text-requires
-    same-length
+    (λ c. search needs)
+    (λ c κs. search needs)
+    (λ c. search needs)
     returns
-    read-line-requires
+    (λ c κs. search needs)
     enum-told
-    enum-known-start
+    (λ c. search needs)
     sub-parse
     part-parse-start
     part-parse-end
-    parse-requires
-    size-in-requires
-    fresh-requires
+    (λ c κs. search needs)
+    (λ c κs. search needs)
+    (λ c κs. search needs)
     answers-requires
-    all-bad-requires
+    (λ c κs. search needs)
     returns-2
-    same-length-2
+    (λ c. search needs)
     returns-3
-    same-length-3
+    (λ c. search needs)
     returns-4)

@@ -4,23 +4,8 @@ use borrow.Author.Needs.{needs}
 use Rattle.run.proofs.size_in.Statement.{statement}
 use Rattle.run.proofs.size_in.Tie as tie
 
-enum-known-line : tie.Need-enum-known-line
-enum-known-line c = search needs
-
 enum-told : tie.Need-enum-told
 enum-told c = search needs
-
-enum-known-line-2 : tie.Need-enum-known-line-2
-enum-known-line-2 c = search needs
-
-enum-known-line-3 : tie.Need-enum-known-line-3
-enum-known-line-3 c = search needs
-
-enum-known-line-4 : tie.Need-enum-known-line-4
-enum-known-line-4 c = search needs
-
-enum-known-line-5 : tie.Need-enum-known-line-5
-enum-known-line-5 c = search needs
 
 returns : tie.Need-returns
 unfolding sizeIn
@@ -50,12 +35,12 @@ pub size-in-spec : {M : Type 1} → statement M
 size-in-spec =
     tie.close
     (tie.spec
-    enum-known-line
+    (λ c. search needs)
     enum-told
-    enum-known-line-2
-    enum-known-line-3
-    enum-known-line-4
-    enum-known-line-5
+    (λ c. search needs)
+    (λ c. search needs)
+    (λ c. search needs)
+    (λ c. search needs)
     returns
     returns-2
     returns-3

@@ -6,17 +6,8 @@ use Rattle.input.proofs.Laws.{counts}
 use Rattle.sheets.proofs.path_of.Statement.{statement}
 use Rattle.sheets.proofs.path_of.Tie as tie
 
-put-text-requires : tie.Need-put-text-requires
-put-text-requires c κs = search needs
-
-put-text-requires-2 : tie.Need-put-text-requires-2
-put-text-requires-2 c κs = search needs
-
-same-length : tie.Need-same-length
-same-length c = search needs
-
 returns : tie.Need-returns
 returns c = counts _ _ (within-buffer _ _ _ _ _ (within-buffer _ _ _ _ _ (omega arith) (c .before .before .before .before .before .before .put-text .ensures)) (c .before .before .put-text2 .ensures))
 
 pub path-of-spec : {M : Type 1} → statement M
-path-of-spec = tie.close (tie.spec put-text-requires put-text-requires-2 same-length returns)
+path-of-spec = tie.close (tie.spec (λ c κs. search needs) (λ c κs. search needs) (λ c. search needs) returns)

@@ -7,20 +7,11 @@ use Rattle.input.proofs.Laws.{first-bytes, text-first}
 use Rattle.sheets.proofs.prints.Statement.{statement}
 use Rattle.sheets.proofs.prints.Tie as tie
 
-output-buffer-requires : tie.Need-output-buffer-requires
-output-buffer-requires c κs = search needs
-
-print-sheet-requires : tie.Need-print-sheet-requires
-print-sheet-requires c κs = search needs
-
 array-share-prefix-out : tie.Need-array-share-prefix-out
 array-share-prefix-out c = first-bytes _ _ (output (c .before .before .before .before .before .args .sheet .now)) (drop (c .print-sheet .result) (c .before .before .output-buffer .result)) (c .print-sheet .ensures .0) (c .print-sheet .ensures .1) .0
 
 slice-aggregate-same : tie.Need-slice-aggregate-same
 slice-aggregate-same c = first-bytes _ _ (output (c .before .before .before .before .before .before .args .sheet .now)) (drop (c .before .print-sheet .result) (c .before .before .before .output-buffer .result)) (c .before .print-sheet .ensures .0) (c .before .print-sheet .ensures .1) .1
-
-same-requires : tie.Need-same-requires
-same-requires c κs = search needs
 
 returns : tie.Need-returns
 returns c =
@@ -32,9 +23,9 @@ pub prints-spec : {M : Type 1} → statement M
 prints-spec =
     tie.close
     (tie.spec
-    output-buffer-requires
-    print-sheet-requires
+    (λ c κs. search needs)
+    (λ c κs. search needs)
     array-share-prefix-out
     slice-aggregate-same
-    same-requires
+    (λ c κs. search needs)
     returns)

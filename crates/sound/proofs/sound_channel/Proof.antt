@@ -17,32 +17,8 @@ Inv-loop n crashed q p c len ok₀ i₀ ok i = (i ≤ c .len) × (len ≡ c .len
 abbrev μ-loop : tie.MeasureT-loop
 μ-loop n crashed q p c len ok₀ i₀ ok i = len - i
 
-or-requires : tie.Need-or-requires Inv-loop μ-loop
-or-requires c κs = search needs
-
 loop-holds : tie.Need-loop-holds Inv-loop μ-loop
 loop-holds c = (omega arith, refl, omega arith, (search long), c .or .ensures ∙ message-none _ _ _ _ _)
-
-cast-s : tie.Need-cast-s Inv-loop μ-loop
-cast-s c = search needs
-
-mul-s : tie.Need-mul-s Inv-loop μ-loop
-mul-s c = search needs
-
-element-copy-out-s : tie.Need-element-copy-out-s Inv-loop μ-loop
-element-copy-out-s c = search needs
-
-sound-message-requires : tie.Need-sound-message-requires Inv-loop μ-loop
-sound-message-requires c κs = search needs
-
-and-requires : tie.Need-and-requires Inv-loop μ-loop
-and-requires c κs = search needs
-
-add-i : tie.Need-add-i Inv-loop μ-loop
-add-i c = search needs
-
-loop-less : tie.Need-loop-less Inv-loop μ-loop
-loop-less c = search needs
 
 loop-again : tie.Need-loop-again Inv-loop μ-loop
 loop-again c =
@@ -65,15 +41,15 @@ sound-channel-spec =
     (tie.spec
     Inv-loop
     μ-loop
-    or-requires
+    (λ c κs. search needs)
     loop-holds
-    cast-s
-    mul-s
-    element-copy-out-s
-    sound-message-requires
-    and-requires
-    add-i
-    loop-less
+    (λ c. search needs)
+    (λ c. search needs)
+    (λ c. search needs)
+    (λ c κs. search needs)
+    (λ c κs. search needs)
+    (λ c. search needs)
+    (λ c. search needs)
     loop-again
     returns
     returns-2)

@@ -11,48 +11,6 @@ use borrow.Author.Needs.{needs}
 use Rattle.sound.proofs.sound_fields.Statement.{statement}
 use Rattle.sound.proofs.sound_fields.Tie as tie
 
-between-requires : tie.Need-between-requires
-between-requires c κs = search needs
-
-between-requires-2 : tie.Need-between-requires-2
-between-requires-2 c κs = search needs
-
-and-requires : tie.Need-and-requires
-and-requires c κs = search needs
-
-within-requires : tie.Need-within-requires
-within-requires c κs = search needs
-
-and-requires-2 : tie.Need-and-requires-2
-and-requires-2 c κs = search needs
-
-within-requires-2 : tie.Need-within-requires-2
-within-requires-2 c κs = search needs
-
-and-requires-3 : tie.Need-and-requires-3
-and-requires-3 c κs = search needs
-
-within-requires-3 : tie.Need-within-requires-3
-within-requires-3 c κs = search needs
-
-and-requires-4 : tie.Need-and-requires-4
-and-requires-4 c κs = search needs
-
-has-requires : tie.Need-has-requires
-has-requires c κs = search needs
-
-and-requires-5 : tie.Need-and-requires-5
-and-requires-5 c κs = search needs
-
-and-requires-6 : tie.Need-and-requires-6
-and-requires-6 c κs = search needs
-
-has-requires-2 : tie.Need-has-requires-2
-has-requires-2 c κs = search needs
-
-and-requires-7 : tie.Need-and-requires-7
-and-requires-7 c κs = search needs
-
 -- all parts but the last
 abbrev owned : ℕ → ℕ → Process → Bool
 owned n p x =
@@ -94,19 +52,19 @@ pub sound-fields-spec : {M : Type 1} → statement M
 sound-fields-spec =
     tie.close
     (tie.spec
-    between-requires
-    between-requires-2
-    and-requires
-    within-requires
-    and-requires-2
-    within-requires-2
-    and-requires-3
-    within-requires-3
-    and-requires-4
-    has-requires
-    and-requires-5
-    and-requires-6
-    has-requires-2
-    and-requires-7
+    (λ c κs. search needs)
+    (λ c κs. search needs)
+    (λ c κs. search needs)
+    (λ c κs. search needs)
+    (λ c κs. search needs)
+    (λ c κs. search needs)
+    (λ c κs. search needs)
+    (λ c κs. search needs)
+    (λ c κs. search needs)
+    (λ c κs. search needs)
+    (λ c κs. search needs)
+    (λ c κs. search needs)
+    (λ c κs. search needs)
+    (λ c κs. search needs)
     returns
     returns-2)

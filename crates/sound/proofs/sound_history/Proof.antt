@@ -22,34 +22,10 @@ loop-holds : tie.Need-loop-holds Inv-loop μ-loop
 unfolding allUpTo
 loop-holds c = (omega arith, (search long), refl)
 
-cast-v : tie.Need-cast-v Inv-loop μ-loop
-cast-v c = search needs
-
-element-copy-out-v : tie.Need-element-copy-out-v Inv-loop μ-loop
-element-copy-out-v c = search needs
-
-within-requires : tie.Need-within-requires Inv-loop μ-loop
-within-requires c κs = search needs
-
-and-requires : tie.Need-and-requires Inv-loop μ-loop
-and-requires c κs = search needs
-
-add-i : tie.Need-add-i Inv-loop μ-loop
-add-i c = search needs
-
-loop-less : tie.Need-loop-less Inv-loop μ-loop
-loop-less c = search needs
-
 loop-again : tie.Need-loop-again Inv-loop μ-loop
 loop-again c =
     let i = c .before .before .before .before .loop .inv in
     (omega arith, i .1, entry-again _ _ _ _ _ _ _ (omega arith) (i .2) (c .and .ensures) (c .before .within .ensures))
-
-element-copy-out-and : tie.Need-element-copy-out-and Inv-loop μ-loop
-element-copy-out-and c = search needs
-
-and-requires-2 : tie.Need-and-requires-2 Inv-loop μ-loop
-and-requires-2 c κs = search needs
 
 returns : tie.Need-returns Inv-loop μ-loop
 returns c = history-is _ _ _ _ _ (c .before .before .before .loop .inv .1) (omega arith) (c .before .before .before .loop .inv .2) (c .and2 .ensures)
@@ -61,13 +37,13 @@ sound-history-spec =
     Inv-loop
     μ-loop
     loop-holds
-    cast-v
-    element-copy-out-v
-    within-requires
-    and-requires
-    add-i
-    loop-less
+    (λ c. search needs)
+    (λ c. search needs)
+    (λ c κs. search needs)
+    (λ c κs. search needs)
+    (λ c. search needs)
+    (λ c. search needs)
     loop-again
-    element-copy-out-and
-    and-requires-2
+    (λ c. search needs)
+    (λ c κs. search needs)
     returns)

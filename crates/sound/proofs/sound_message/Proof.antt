@@ -9,37 +9,10 @@ use borrow.Author.Needs.{needs}
 use Rattle.sound.proofs.sound_message.Statement.{statement}
 use Rattle.sound.proofs.sound_message.Tie as tie
 
-enum-known-m : tie.Need-enum-known-m
-enum-known-m c = search needs
-
-sound-proposal-requires : tie.Need-sound-proposal-requires
-sound-proposal-requires c κs = search needs
-
-enum-known-m-2 : tie.Need-enum-known-m-2
-enum-known-m-2 c = search needs
-
-between-requires : tie.Need-between-requires
-between-requires c κs = search needs
-
 add-between : tie.Need-add-between
 add-between c =
     let k = c .before .before .before .before .m2 .given .0 .0 .0 in
     omega (arith, leb-true k 32 (and-right (leb 2 k) (leb k 32) (sym (c .before .before .between .ensures) ∙ c .before .if1 .taken)))
-
-between-requires-2 : tie.Need-between-requires-2
-between-requires-2 c κs = search needs
-
-enum-known-m-3 : tie.Need-enum-known-m-3
-enum-known-m-3 c = search needs
-
-between-requires-3 : tie.Need-between-requires-3
-between-requires-3 c κs = search needs
-
-enum-known-m-4 : tie.Need-enum-known-m-4
-enum-known-m-4 c = search needs
-
-sound-proposal-requires-2 : tie.Need-sound-proposal-requires-2
-sound-proposal-requires-2 c κs = search needs
 
 returns : tie.Need-returns
 unfolding soundMessage
@@ -65,16 +38,16 @@ pub sound-message-spec : {M : Type 1} → statement M
 sound-message-spec =
     tie.close
     (tie.spec
-    enum-known-m
-    sound-proposal-requires
-    enum-known-m-2
-    between-requires
+    (λ c. search needs)
+    (λ c κs. search needs)
+    (λ c. search needs)
+    (λ c κs. search needs)
     add-between
-    between-requires-2
-    enum-known-m-3
-    between-requires-3
-    enum-known-m-4
-    sound-proposal-requires-2
+    (λ c κs. search needs)
+    (λ c. search needs)
+    (λ c κs. search needs)
+    (λ c. search needs)
+    (λ c κs. search needs)
     returns
     returns-2
     returns-3

@@ -7,12 +7,6 @@ use Rattle.sound.proofs.sound_pending.Tie as tie
 enum-told : tie.Need-enum-told
 enum-told c = search needs
 
-enum-known-x : tie.Need-enum-known-x
-enum-known-x c = search needs
-
-sound-proposal-requires : tie.Need-sound-proposal-requires
-sound-proposal-requires c κs = search needs
-
 returns : tie.Need-returns
 unfolding soundPending
 returns c = simp (c .enum-told .given .1)
@@ -23,4 +17,4 @@ returns-2 c = simp (c .before .before .x .given .1, c .sound-proposal .ensures)
 
 pub sound-pending-spec : {M : Type 1} → statement M
 sound-pending-spec =
-    tie.close (tie.spec enum-told enum-known-x sound-proposal-requires returns returns-2)
+    tie.close (tie.spec enum-told (λ c. search needs) (λ c κs. search needs) returns returns-2)

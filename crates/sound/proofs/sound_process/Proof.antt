@@ -15,38 +15,8 @@ Inv-loop n p x ok₀ i₀ ok i = (i ≤ n) × (n ≤ 8) × (length (x .pending) 
 abbrev μ-loop : tie.MeasureT-loop
 μ-loop n p x ok₀ i₀ ok i = n - i
 
-sound-fields-requires : tie.Need-sound-fields-requires Inv-loop μ-loop
-sound-fields-requires c κs = search needs
-
-sound-history-requires : tie.Need-sound-history-requires Inv-loop μ-loop
-sound-history-requires c κs = search needs
-
-and-requires : tie.Need-and-requires Inv-loop μ-loop
-and-requires c κs = search needs
-
 loop-holds : tie.Need-loop-holds Inv-loop μ-loop
 loop-holds c = (omega arith, search needs, (search long), record-none _ _ _ _ _ _ (c .and .ensures) (c .before .before .sound-fields .ensures) (c .before .sound-history .ensures))
-
-cast-s : tie.Need-cast-s Inv-loop μ-loop
-cast-s c = search needs
-
-mul-s : tie.Need-mul-s Inv-loop μ-loop
-mul-s c = search needs
-
-element-copy-out-s : tie.Need-element-copy-out-s Inv-loop μ-loop
-element-copy-out-s c = search needs
-
-add-i : tie.Need-add-i Inv-loop μ-loop
-add-i c = search needs
-
-sound-pending-requires : tie.Need-sound-pending-requires Inv-loop μ-loop
-sound-pending-requires c κs = search needs
-
-and-requires-2 : tie.Need-and-requires-2 Inv-loop μ-loop
-and-requires-2 c κs = search needs
-
-loop-less : tie.Need-loop-less Inv-loop μ-loop
-loop-less c = search needs
 
 loop-again : tie.Need-loop-again Inv-loop μ-loop
 loop-again c =
@@ -64,16 +34,16 @@ sound-process-spec =
     (tie.spec
     Inv-loop
     μ-loop
-    sound-fields-requires
-    sound-history-requires
-    and-requires
+    (λ c κs. search needs)
+    (λ c κs. search needs)
+    (λ c κs. search needs)
     loop-holds
-    cast-s
-    mul-s
-    element-copy-out-s
-    add-i
-    sound-pending-requires
-    and-requires-2
-    loop-less
+    (λ c. search needs)
+    (λ c. search needs)
+    (λ c. search needs)
+    (λ c. search needs)
+    (λ c κs. search needs)
+    (λ c κs. search needs)
+    (λ c. search needs)
     loop-again
     returns)

@@ -6,15 +6,6 @@ use borrow.Author.Needs.{needs}
 use Rattle.step.proofs.carry_out.Statement.{statement}
 use Rattle.step.proofs.carry_out.Tie as tie
 
-room-for-requires : tie.Need-room-for-requires
-room-for-requires c κs = search needs
-
-with-process-requires : tie.Need-with-process-requires
-with-process-requires c κs = search needs
-
-broadcast-requires : tie.Need-broadcast-requires
-broadcast-requires c κs = search needs
-
 returns : tie.Need-returns
 unfolding carriedOut pick
 returns c =
@@ -38,9 +29,9 @@ pub carry-out-spec : {M : Type 1} → statement M
 carry-out-spec =
     tie.close
     (tie.spec
-    room-for-requires
-    with-process-requires
-    broadcast-requires
+    (λ c κs. search needs)
+    (λ c κs. search needs)
+    (λ c κs. search needs)
     returns
     returns-2
     returns-3)

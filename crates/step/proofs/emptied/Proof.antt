@@ -1,39 +1,42 @@
--- `step::emptied`: the channel is found and replaced, or there is none.
-use Rattle.channel.specs.Channel.{emptyChannel}
-use Rattle.system.specs.System.{withChannelTo}
-use Rattle.view.proofs.Laws.{long, put-found, put-missing}
+-- `step::emptied`: after q turns the channels from the first q processes are emptied.
+use Prim.Native.Nat.{_-_, _≤_}
+use mathlib.Core.Path.{_≡_, refl}
+use native.Mathlib.Omega.{arith}
+use Rattle.view.specs.Logic.{eachUpTo}
+use Rattle.step.specs.Step.{emptiedFrom}
+use Rattle.step.proofs.Laws.{emptied-again}
 use borrow.Author.Needs.{needs}
 use Rattle.step.proofs.emptied.Statement.{statement}
 use Rattle.step.proofs.emptied.Tie as tie
 
-place-requires : tie.Need-place-requires
-place-requires c κs = search needs
+abbrev Inv-loop : tie.InvT-loop
+Inv-loop p next₀ q₀ next q = (q ≤ 8) × (next ≡ eachUpTo q (emptiedFrom (p .0)) next₀)
 
-empty-requires : tie.Need-empty-requires
-empty-requires c κs = search needs
+abbrev μ-loop : tie.MeasureT-loop
+μ-loop p next₀ q₀ next q = 8 - q
 
-mul-t7 : tie.Need-mul-t7
-mul-t7 c = search needs
+loop-holds : tie.Need-loop-holds Inv-loop μ-loop
+unfolding eachUpTo
+loop-holds c = (omega arith, refl)
 
-element-set-from-next : tie.Need-element-set-from-next
-element-set-from-next c = search needs
+loop-again : tie.Need-loop-again Inv-loop μ-loop
+loop-again c = (omega arith, emptied-again _ _ _ _ _ _ (c .before .empty .ensures) (c .with-channel .ensures) (c .before .before .before .loop .inv .1))
 
-returns : tie.Need-returns
-unfolding withChannelTo
+returns : tie.Need-returns Inv-loop μ-loop
 returns c =
-    let a = c .before .before .before .args in
-    rw (
-      c .empty .ensures,
-      put-found (a .r .channels) 8 (a .p .0) _ (c .before .before .place .ensures) (search long) emptyChannel (c .before .if1 .taken),
-    )
-
-returns-2 : tie.Need-returns-2
-unfolding withChannelTo
-returns-2 c =
-    let a = c .before .before .args in
-    rw (← put-missing (a .r .channels) 8 (a .p .0) _ (c .before .place .ensures) (search long) emptyChannel (c .if1 .left))
+    let end : c .before .loop .q ≡ 8 = omega arith in
+    rw end at (c .before .loop .inv .1)
 
 pub emptied-spec : {M : Type 1} → statement M
 emptied-spec =
     tie.close
-    (tie.spec place-requires empty-requires mul-t7 element-set-from-next returns returns-2)
+    (tie.spec
+    Inv-loop
+    μ-loop
+    loop-holds
+    (λ c. search needs)
+    (λ c κs. search needs)
+    (λ c κs. search needs)
+    (λ c. search needs)
+    loop-again
+    returns)

@@ -4,15 +4,6 @@ use borrow.Author.Needs.{needs}
 use Rattle.step.proofs.guard.Statement.{statement}
 use Rattle.step.proofs.guard.Tie as tie
 
-is-one-of-requires : tie.Need-is-one-of-requires
-is-one-of-requires c κs = search needs
-
-is-one-of-requires-2 : tie.Need-is-one-of-requires-2
-is-one-of-requires-2 c κs = search needs
-
-and-requires : tie.Need-and-requires
-and-requires c κs = search needs
-
 returns : tie.Need-returns
 unfolding pick
 returns c =
@@ -48,4 +39,4 @@ returns-3 c =
 pub guard-spec : {M : Type 1} → statement M
 guard-spec =
     tie.close
-    (tie.spec is-one-of-requires is-one-of-requires-2 and-requires returns returns-2 returns-3)
+    (tie.spec (λ c κs. search needs) (λ c κs. search needs) (λ c κs. search needs) returns returns-2 returns-3)

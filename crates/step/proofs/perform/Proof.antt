@@ -5,12 +5,6 @@ use borrow.Author.Needs.{needs}
 use Rattle.step.proofs.perform.Statement.{statement}
 use Rattle.step.proofs.perform.Tie as tie
 
-sound-requires : tie.Need-sound-requires
-sound-requires c κs = search needs
-
-attempt-requires : tie.Need-attempt-requires
-attempt-requires c κs = search needs
-
 returns : tie.Need-returns
 unfolding stepped pick
 returns c = simp (c .attempt .ensures, ← c .before .before .sound .ensures, c .before .if1 .taken)
@@ -20,4 +14,4 @@ unfolding stepped pick
 returns-2 c = simp (← c .before .sound .ensures, c .if1 .left)
 
 pub perform-spec : {M : Type 1} → statement M
-perform-spec = tie.close (tie.spec sound-requires attempt-requires returns returns-2)
+perform-spec = tie.close (tie.spec (λ c κs. search needs) (λ c κs. search needs) returns returns-2)

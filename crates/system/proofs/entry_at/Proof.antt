@@ -5,12 +5,6 @@ use borrow.Author.Needs.{needs}
 use Rattle.system.proofs.entry_at.Statement.{statement}
 use Rattle.system.proofs.entry_at.Tie as tie
 
-place-requires : tie.Need-place-requires
-place-requires c κs = search needs
-
-element-copy-out-result : tie.Need-element-copy-out-result
-element-copy-out-result c = search needs
-
 returns : tie.Need-returns
 unfolding entryAt
 returns c =
@@ -24,4 +18,4 @@ returns-2 c =
     at-missing (a .t1 .entries) 32 (a .i .0) _ (c .before .place .ensures) (search long) 0 (c .if1 .left)
 
 pub entry-at-spec : {M : Type 1} → statement M
-entry-at-spec = tie.close (tie.spec place-requires element-copy-out-result returns returns-2)
+entry-at-spec = tie.close (tie.spec (λ c κs. search needs) (λ c. search needs) returns returns-2)

@@ -8,15 +8,6 @@ use borrow.Author.Needs.{needs}
 use Rattle.system.proofs.pending_at.Statement.{statement}
 use Rattle.system.proofs.pending_at.Tie as tie
 
-place-requires : tie.Need-place-requires
-place-requires c κs = search needs
-
-mul-s : tie.Need-mul-s
-mul-s c = search needs
-
-element-copy-out-s : tie.Need-element-copy-out-s
-element-copy-out-s c = search needs
-
 returns : tie.Need-returns
 unfolding pendingAt
 returns c =
@@ -30,4 +21,4 @@ returns-2 c =
     ap (λ (x : PendingSlot). x .pending) (at-missing (a .t1 .pending) 8 (a .q .0) _ (c .before .place .ensures) (search long) (pendingSlot Nothing) (c .if1 .left))
 
 pub pending-at-spec : {M : Type 1} → statement M
-pending-at-spec = tie.close (tie.spec place-requires mul-s element-copy-out-s returns returns-2)
+pending-at-spec = tie.close (tie.spec (λ c κs. search needs) (λ c. search needs) (λ c. search needs) returns returns-2)

@@ -5,18 +5,6 @@ use borrow.Author.Needs.{needs}
 use Rattle.system.proofs.send.Statement.{statement}
 use Rattle.system.proofs.send.Tie as tie
 
-process-at-requires : tie.Need-process-at-requires
-process-at-requires c κs = search needs
-
-channel-at-requires : tie.Need-channel-at-requires
-channel-at-requires c κs = search needs
-
-push-requires : tie.Need-push-requires
-push-requires c κs = search needs
-
-with-channel-requires : tie.Need-with-channel-requires
-with-channel-requires c κs = search needs
-
 returns : tie.Need-returns
 unfolding sent pick
 returns c = simp (← c .before .process-at .ensures, c .if1 .taken)
@@ -29,9 +17,9 @@ pub send-spec : {M : Type 1} → statement M
 send-spec =
     tie.close
     (tie.spec
-    process-at-requires
-    channel-at-requires
-    push-requires
-    with-channel-requires
+    (λ c κs. search needs)
+    (λ c κs. search needs)
+    (λ c κs. search needs)
+    (λ c κs. search needs)
     returns
     returns-2)

@@ -4,9 +4,6 @@ use borrow.Author.Needs.{needs}
 use Rattle.system.proofs.told.Statement.{statement}
 use Rattle.system.proofs.told.Tie as tie
 
-push-requires : tie.Need-push-requires
-push-requires c κs = search needs
-
 returns : tie.Need-returns
 unfolding pick
 returns c = simp (c .before .if1 .taken, c .push .ensures)
@@ -16,4 +13,4 @@ unfolding pick
 returns-2 c = simp (c .if1 .left)
 
 pub told-spec : {M : Type 1} → statement M
-told-spec = tie.close (tie.spec push-requires returns returns-2)
+told-spec = tie.close (tie.spec (λ c κs. search needs) returns returns-2)

@@ -5,12 +5,6 @@ use borrow.Author.Needs.{needs}
 use Rattle.system.proofs.with_entry.Statement.{statement}
 use Rattle.system.proofs.with_entry.Tie as tie
 
-place-requires : tie.Need-place-requires
-place-requires c κs = search needs
-
-element-write-next : tie.Need-element-write-next
-element-write-next c = search needs
-
 returns : tie.Need-returns
 unfolding withEntry
 returns c =
@@ -24,4 +18,4 @@ returns-2 c =
     rw (← put-missing (a .h .entries) 32 (a .i .0) _ (c .before .place .ensures) (search long) (a .view) (c .if1 .left))
 
 pub with-entry-spec : {M : Type 1} → statement M
-with-entry-spec = tie.close (tie.spec place-requires element-write-next returns returns-2)
+with-entry-spec = tie.close (tie.spec (λ c κs. search needs) (λ c. search needs) returns returns-2)

@@ -5,15 +5,6 @@ use borrow.Author.Needs.{needs}
 use Rattle.system.proofs.with_pending.Statement.{statement}
 use Rattle.system.proofs.with_pending.Tie as tie
 
-place-requires : tie.Need-place-requires
-place-requires c κs = search needs
-
-mul-t8 : tie.Need-mul-t8
-mul-t8 c = search needs
-
-element-set-from-next : tie.Need-element-set-from-next
-element-set-from-next c = search needs
-
 returns : tie.Need-returns
 unfolding withPending
 returns c =
@@ -28,4 +19,4 @@ returns-2 c =
 
 pub with-pending-spec : {M : Type 1} → statement M
 with-pending-spec =
-    tie.close (tie.spec place-requires mul-t8 element-set-from-next returns returns-2)
+    tie.close (tie.spec (λ c κs. search needs) (λ c. search needs) (λ c. search needs) returns returns-2)

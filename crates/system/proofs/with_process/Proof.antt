@@ -5,15 +5,6 @@ use borrow.Author.Needs.{needs}
 use Rattle.system.proofs.with_process.Statement.{statement}
 use Rattle.system.proofs.with_process.Tie as tie
 
-place-requires : tie.Need-place-requires
-place-requires c κs = search needs
-
-mul-x : tie.Need-mul-x
-mul-x c = search needs
-
-element-set-from-x : tie.Need-element-set-from-x
-element-set-from-x c = search needs
-
 returns : tie.Need-returns
 unfolding withProcess
 returns c =
@@ -27,4 +18,4 @@ returns-2 c =
     rw (← put-missing (a .s .processes) 8 (a .p .0) _ (c .before .place .ensures) (search long) (a .x) (c .if1 .left))
 
 pub with-process-spec : {M : Type 1} → statement M
-with-process-spec = tie.close (tie.spec place-requires mul-x element-set-from-x returns returns-2)
+with-process-spec = tie.close (tie.spec (λ c κs. search needs) (λ c. search needs) (λ c. search needs) returns returns-2)

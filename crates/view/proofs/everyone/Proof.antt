@@ -12,9 +12,6 @@ returns : tie.Need-returns
 unfolding everyone pick
 returns c = simp (le-leb _ _ (c .if1 .taken))
 
-shl-result : tie.Need-shl-result
-shl-result c = search needs
-
 sub-result : tie.Need-sub-result
 sub-result c = rw (one-bit _ (c .if1 .left)) (pow-pos _)
 
@@ -23,4 +20,4 @@ unfolding everyone pick
 returns-2 c = simp (lt-leb _ _ (c .if1 .left), one-bit _ (c .if1 .left))
 
 pub everyone-spec : {M : Type 1} → statement M
-everyone-spec = tie.close (tie.spec shl-result sub-result returns returns-2)
+everyone-spec = tie.close (tie.spec (λ c. search needs) sub-result returns returns-2)

@@ -9,9 +9,6 @@ use Rattle.view.proofs.Laws.{one-of}
 use Rattle.view.proofs.has.Statement.{statement}
 use Rattle.view.proofs.has.Tie as tie
 
-is-one-of-requires : tie.Need-is-one-of-requires
-is-one-of-requires c κs = search needs
-
 tested : (c : tie.Then1) → isOneOf 8 (c .before .before .args .p .0) ≡ true
 tested c = sym (c .before .is-one-of .ensures) ∙ c .if1 .taken
 
@@ -30,4 +27,4 @@ unfolding has
 returns-2 c = simp (← c .before .is-one-of .ensures, c .if1 .left)
 
 pub has-spec : {M : Type 1} → statement M
-has-spec = tie.close (tie.spec is-one-of-requires sub-result shr-result returns returns-2)
+has-spec = tie.close (tie.spec (λ c κs. search needs) sub-result shr-result returns returns-2)

@@ -9,9 +9,6 @@ use Rattle.view.proofs.Table.{entry}
 use Rattle.view.proofs.least.Statement.{statement}
 use Rattle.view.proofs.least.Tie as tie
 
-array-read-t6 : tie.Need-array-read-t6
-array-read-t6 c = search needs
-
 abbrev process : ℕ → ProcessId
 process k = record { 0 = k }
 
@@ -20,4 +17,4 @@ unfolding leastOf firstFrom has pick
 returns c = ap process (entry 256 (firstFrom 8 1) (c .args .view) (c .fits .view .fits))
 
 pub least-spec : {M : Type 1} → statement M
-least-spec = tie.close (tie.spec array-read-t6 returns)
+least-spec = tie.close (tie.spec (λ c. search needs) returns)

@@ -6,14 +6,8 @@ use Rattle.view.proofs.Laws.{one-of}
 use Rattle.view.proofs.place.Statement.{statement}
 use Rattle.view.proofs.place.Tie as tie
 
-and-requires : tie.Need-and-requires
-and-requires c κs = search needs
-
 sub-result : tie.Need-sub-result
 sub-result c = one-of _ _ (sym (c .before .and .ensures) ∙ c .if1 .taken) .0
-
-cast-result : tie.Need-cast-result
-cast-result c = search needs
 
 returns : tie.Need-returns
 unfolding placeOf pick
@@ -24,4 +18,4 @@ unfolding placeOf pick
 returns-2 c = simp (← c .before .and .ensures, c .if1 .left)
 
 pub place-spec : {M : Type 1} → statement M
-place-spec = tie.close (tie.spec and-requires sub-result cast-result returns returns-2)
+place-spec = tie.close (tie.spec (λ c κs. search needs) sub-result (λ c. search needs) returns returns-2)

@@ -10,9 +10,6 @@ use Rattle.view.proofs.Views.{one-bit}
 use Rattle.view.proofs.with.Statement.{statement}
 use Rattle.view.proofs.with.Tie as tie
 
-is-one-of-requires : tie.Need-is-one-of-requires
-is-one-of-requires c κs = search needs
-
 tested : (c : tie.Then1) → isOneOf 8 (c .before .before .args .p .0) ≡ true
 tested c = sym (c .before .is-one-of .ensures) ∙ c .if1 .taken
 
@@ -31,4 +28,4 @@ unfolding with pick
 returns-2 c = simp (← c .before .is-one-of .ensures, c .if1 .left)
 
 pub with-spec : {M : Type 1} → statement M
-with-spec = tie.close (tie.spec is-one-of-requires sub-result shl-result returns returns-2)
+with-spec = tie.close (tie.spec (λ c κs. search needs) sub-result shl-result returns returns-2)

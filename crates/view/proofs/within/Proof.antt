@@ -10,9 +10,6 @@ use Rattle.view.proofs.Views.{shifted-out}
 use Rattle.view.proofs.within.Statement.{statement}
 use Rattle.view.proofs.within.Tie as tie
 
-shr-result : tie.Need-shr-result
-shr-result c = search needs
-
 returns : tie.Need-returns
 returns c = shifted-out _ _ (c .if1 .taken) (c .before .fits .view .fits)
 
@@ -21,4 +18,4 @@ unfolding within
 returns-2 c = sym (all-intro 8 _ (λ k l u. or-right (not (has (c .before .args .view) k)) _ (le-leb k (c .before .args .n) (omega arith))))
 
 pub within-spec : {M : Type 1} → statement M
-within-spec = tie.close (tie.spec shr-result returns returns-2)
+within-spec = tie.close (tie.spec (λ c. search needs) returns returns-2)

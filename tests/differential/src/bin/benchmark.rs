@@ -1,115 +1,224 @@
-//! The proved library and the reference side by side, in one run: whole sheets, and single steps on
-//! images. Each figure is the best of some rounds; the first round of each is thrown away.
+//! The proved library and the reference side by side, in one run: whole sheets, and single steps
+//! through the image. Nothing is judged.
 
-#[path = "../dice.rs"]
-#[allow(dead_code)]
-mod dice;
-
-use dice::{line, Dice};
+use differential::dice::Dice;
+use differential::lines::line;
+use differential::our_step;
 use lobstercreel as ours;
 use reference::image::{decode, encode, Image};
-use reference::{number, Step, System};
+use reference::{number, ProcessId, Step, System};
 use std::hint::black_box;
 use std::time::{Duration, Instant};
 
-const ROUNDS: usize = 12;
+/// How long each figure's rounds go on.
+const PATIENCE: Duration = Duration::from_millis(800);
+
+/// Lines in one timed round of whole sheets, about.
+const LINES: usize = 20_000;
+
+/// Images in one timed round of single steps.
+const IMAGES: usize = 128;
+
+const HELP: &str = "\
+Both sides are built for release and called in this one process. Their rounds take turns, and the
+best round counts. ns: for one step, on a sheet one line. ratio: our time by the reference's.
+Cleared before each round, outside the clock: the output buffer that is lent to each side,
+overwritten with zeros; the images, copied anew, one for each step. Not cleared: the processor's
+caches, which are warm on both sides.
+Inside the clock, on both sides: reading the sheet and writing its output; or reading the image,
+the soundness test, the step, and writing the image if the step is done.
+refused: lines with another number than 0. quiet: reports that only change a local view.
+A history ends at position 32: after some hundred lines a sheet has little else left.
+";
 
 fn main() {
-    println!("whole sheets, nanoseconds a line   ours  reference  ratio");
+    print!("{HELP}");
+    println!();
+    heading("whole sheets");
     for n in [1, 2, 4, 8] {
-        sheets(n, 2_000);
+        sheets(n, 150);
     }
-    for lines in [20, 200, 2_000, 9_000] {
+    for lines in [20, 200, 1_000, 2_500, 5_000] {
         sheets(8, lines);
     }
-    println!("single steps on an image, ns       ours  reference  ratio");
+    println!();
+    heading("single steps through the image");
     for n in [1, 2, 4, 8] {
-        steps(n);
+        steps(n, true);
     }
+    steps(8, false);
 }
 
-fn best(mut work: impl FnMut()) -> Duration {
-    let mut time = || {
-        let start = Instant::now();
-        work();
-        start.elapsed()
-    };
-    time();
-    (0..ROUNDS).map(|_| time()).min().expect("a round")
+fn heading(what: &str) {
+    println!("{what:<41} {:>17} {:>17}", "ours", "reference");
+    println!("{:41} {:>6} {:>10} {:>6} {:>10}  ratio", "", "ns", "steps/s", "ns", "steps/s");
 }
 
-fn row(what: String, count: usize, ours: Duration, reference: Duration) {
-    let each = |time: Duration| time.as_nanos() as f64 / count as f64;
-    let ratio = ours.as_secs_f64() / reference.as_secs_f64();
-    println!("{what:<32} {:>7.0} {:>10.0} {ratio:>6.2}", each(ours), each(reference));
+fn row(what: String, count: usize, (ours, reference): (Duration, Duration)) {
+    let each = |time: Duration| time.as_secs_f64() / count as f64;
+    let nanoseconds = |time| 1e9 * each(time);
+    let rate = |time| 1.0 / each(time);
+    let ratio = each(ours) / each(reference);
+    println!(
+        "{what:<41} {:>6.0} {:>10.0} {:>6.0} {:>10.0} {ratio:>6.2}",
+        nanoseconds(ours),
+        rate(ours),
+        nanoseconds(reference),
+        rate(reference),
+    );
 }
 
-/// A run of likely steps from a fresh system, with the system before each.
-fn likely_run(n: u8, steps: usize) -> Vec<(System, Step)> {
+/// The best times of ours and of the reference's work, each after its own clearing.
+fn best<A, B>(
+    mut clear_ours: impl FnMut() -> A,
+    mut ours: impl FnMut(&mut A),
+    mut clear_reference: impl FnMut() -> B,
+    mut reference: impl FnMut(&mut B),
+) -> (Duration, Duration) {
+    let mut best = (Duration::MAX, Duration::MAX);
+    let start = Instant::now();
+    while start.elapsed() < PATIENCE {
+        best.0 = best.0.min(timed(&mut clear_ours, &mut ours));
+        best.1 = best.1.min(timed(&mut clear_reference, &mut reference));
+    }
+    best
+}
+
+fn timed<T>(clear: &mut impl FnMut() -> T, work: &mut impl FnMut(&mut T)) -> Duration {
+    let mut cleared = clear();
+    let start = Instant::now();
+    work(&mut cleared);
+    start.elapsed()
+}
+
+/// A buffer whose every byte was written.
+fn zeros(length: usize) -> Vec<u8> {
+    let mut out = vec![u8::MAX; length];
+    black_box(&mut out).fill(0);
+    out
+}
+
+/// A run from a fresh system in which steps are done as long as there are any: it takes what waits
+/// and answers what can be answered, by chance, and reports when there is nothing of this, and now
+/// and then before. Each step stands with the system before it.
+fn busy_run(n: u8, steps: usize) -> Vec<(System, Step)> {
     let mut dice = Dice::new(n.into());
     let mut system = reference::fresh(n).1;
     let mut run = Vec::with_capacity(steps);
     while run.len() < steps {
-        let step = dice.likely_step(&system, 6);
-        if matches!(step, Step::Crash { .. }) {
-            continue;
-        }
+        let due = due(&system);
+        let step = match due.is_empty() || dice.one_in(40) {
+            true => report(&mut dice, &system),
+            false => dice.pick(&due),
+        };
         run.push((system.clone(), step));
         let _ = step.run_on_sound(&mut system);
-        if system.processes[..n.into()].iter().any(|p| p.propout.0 >= 32) {
-            system = reference::fresh(n).1;
-        }
     }
     run
 }
 
-fn sheets(n: u8, lines: usize) {
-    let mut text = format!("u {n}\n");
-    for (_, step) in likely_run(n, lines) {
-        text += &line(step);
-        text.push('\n');
-    }
-    let sheet = text.as_bytes();
-    let mut out = vec![0; ours::OUTPUT];
-    let times = 1 + 20_000 / lines;
-    let mine = best(|| {
-        (0..times).for_each(|_| {
-            black_box(ours::run_sheet_into(sheet, &mut out));
-        })
-    });
-    let theirs = best(|| {
-        (0..times).for_each(|_| {
-            black_box(reference::run_sheet(sheet));
-        })
-    });
-    row(format!("  n {n}, {lines} lines"), times * lines, mine, theirs);
+fn is_done(system: &System, step: Step) -> bool {
+    step.run_on_sound(&mut system.clone()).is_ok()
 }
 
-fn steps(n: u8) {
-    let run: Vec<(Image, Step)> =
-        likely_run(n, 2_000).iter().map(|(s, o)| (encode(s), *o)).collect();
-    let mine = best(|| {
-        for (image, step) in &run {
-            let mut image = *image;
-            let o = match *step {
-                Step::Report { p, view } => ours::Step::Report { p: p.0, view: view.0 },
-                Step::Receive { from, at } => ours::Step::Receive { q: from.0, p: at.0 },
-                Step::Respond { p, to } => ours::Step::Respond { p: p.0, q: to.0 },
-                Step::Crash { p } => ours::Step::Crash { p: p.0 },
-            };
-            let _ = black_box(ours::step(&mut image, o));
-            black_box(&image);
-        }
-    });
-    let theirs = best(|| {
-        for (image, step) in &run {
-            let mut image = *image;
-            let mut system = decode(&image).expect("an image");
-            if number(black_box(step.run(&mut system))) == 0 {
-                image = encode(&system);
+/// The takes and answers that would be done.
+fn due(system: &System) -> Vec<Step> {
+    let mut due = Vec::new();
+    for p in system.everyone().members() {
+        for q in system.everyone().members() {
+            if system.channel(q, p).len > 0 {
+                due.push(Step::Receive { from: q, at: p });
             }
-            black_box(&image);
+            if system.process(p).recorded[usize::from(q.0) - 1].is_some() {
+                due.push(Step::Respond { p, to: q });
+            }
         }
-    });
-    row(format!("  n {n}"), run.len(), mine, theirs);
+    }
+    due.retain(|step| is_done(system, *step));
+    due
+}
+
+/// A report, if possible one that is done.
+fn report(dice: &mut Dice, system: &System) -> Step {
+    let mut step = Step::Report { p: ProcessId(1), view: system.everyone() };
+    for _ in 0..20 {
+        if is_done(system, step) {
+            break;
+        }
+        let p = dice.one_of(system.n);
+        let view = if dice.one_in(2) { system.everyone() } else { dice.some_of(system.n).with(p) };
+        step = Step::Report { p, view };
+    }
+    step
+}
+
+fn sheets(n: u8, lines: usize) {
+    let run = busy_run(n, lines);
+    let mut text = format!("u {n}\n");
+    run.iter().for_each(|(_, step)| text += &(line(*step) + "\n"));
+    let sheet = text.as_bytes();
+    assert!(sheet.len() <= reference::SHEET_LIMIT, "{lines} lines are too many");
+    let output = reference::run_sheet(sheet);
+    assert!(ours::run_sheet(sheet) == output);
+    let times = 1 + LINES / lines;
+    let time = best(
+        || zeros(output.len() + 1),
+        |out| {
+            for _ in 0..times {
+                black_box(ours::run_sheet_into(sheet, out));
+            }
+        },
+        || zeros(output.len() + 1),
+        |out| {
+            for _ in 0..times {
+                out.clear();
+                reference::run_sheet_onto(out, sheet);
+                black_box(&out);
+            }
+        },
+    );
+    let share = |count: usize| 100 * count / lines;
+    let refused = share(run.iter().filter(|(system, step)| !is_done(system, *step)).count());
+    let quiet = share(run.iter().filter(|(_, step)| is_quiet(*step)).count());
+    let what = format!("n {n}, {lines} lines, {refused}% refused, {quiet}% quiet");
+    row(what, times * lines, time);
+}
+
+fn is_quiet(step: Step) -> bool {
+    matches!(step, Step::Report { p, view } if view.min() != Some(p))
+}
+
+/// Steps that are done, or answers that find nothing to answer.
+fn steps(n: u8, done: bool) {
+    let nothing = Step::Respond { p: ProcessId(n), to: ProcessId(n) };
+    let mut run = busy_run(n, 150 * usize::from(n));
+    if !done {
+        run.iter_mut().for_each(|(_, step)| *step = nothing);
+    }
+    run.retain(|(system, step)| is_done(system, *step) == done);
+    let apart = (run.len() / IMAGES).max(1);
+    let chosen: Vec<(Image, Step)> = run
+        .iter()
+        .step_by(apart)
+        .take(IMAGES)
+        .map(|(system, step)| (encode(system), *step))
+        .collect();
+    let time = best(
+        || chosen.clone(),
+        |images| {
+            for (image, step) in images {
+                let _ = black_box(ours::step(image, our_step(*step)));
+            }
+        },
+        || chosen.clone(),
+        |images| {
+            for (image, step) in images {
+                let mut system = decode(image).expect("an image");
+                if number(black_box(step.run(&mut system))) == 0 {
+                    *image = encode(&system);
+                }
+            }
+        },
+    );
+    row(format!("n {n}, {}", if done { "done" } else { "refused with 5" }), chosen.len(), time);
 }

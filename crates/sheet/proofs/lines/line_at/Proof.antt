@@ -8,9 +8,6 @@ use Rattle.sheet.proofs.Laws.{line-within}
 use Rattle.sheet.proofs.lines.line_at.Statement.{statement}
 use Rattle.sheet.proofs.lines.line_at.Tie as tie
 
-line-end-requires : tie.Need-line-end-requires
-line-end-requires c κs = search needs
-
 add-t7 : tie.Need-add-t7
 add-t7 c = let a = c .before .before .before .args in
     omega (arith, c .line-end .ensures, line-within (a .s .now) (a .at) (omega arith))
@@ -24,4 +21,4 @@ unfolding lineAt pick
 returns-2 c = simp (le-ltb _ _ (c .if1 .left))
 
 pub line-at-spec : {M : Type 1} → statement M
-line-at-spec = tie.close (tie.spec line-end-requires add-t7 returns returns-2)
+line-at-spec = tie.close (tie.spec (λ c κs. search needs) add-t7 returns returns-2)

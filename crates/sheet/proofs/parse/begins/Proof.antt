@@ -27,9 +27,6 @@ shared-slice-read-stands c = omega arith
 shared-slice-read-stands-2 : tie.Need-shared-slice-read-stands-2 Inv-loop μ-loop
 shared-slice-read-stands-2 c = omega arith
 
-stands-requires : tie.Need-stands-requires Inv-loop μ-loop
-stands-requires c κs = search needs
-
 add-i : tie.Need-add-i Inv-loop μ-loop
 add-i c = omega arith
 
@@ -61,7 +58,7 @@ begins-spec =
     returns
     shared-slice-read-stands
     shared-slice-read-stands-2
-    stands-requires
+    (λ c κs. search needs)
     add-i
     loop-less
     loop-again

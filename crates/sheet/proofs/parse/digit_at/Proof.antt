@@ -8,9 +8,6 @@ use Rattle.sheet.specs.Parse.{digitAt}
 use Rattle.sheet.proofs.parse.digit_at.Statement.{statement}
 use Rattle.sheet.proofs.parse.digit_at.Tie as tie
 
-shared-slice-read-b : tie.Need-shared-slice-read-b
-shared-slice-read-b c = search needs
-
 returns : tie.Need-returns
 unfolding digitAt
 returns c = refl
@@ -24,4 +21,4 @@ unfolding digitAt
 returns-3 c = rw (List·getD-eq-default {A = ℕ} _ 0 (c .if1 .left))
 
 pub digit-at-spec : {M : Type 1} → statement M
-digit-at-spec = tie.close (tie.spec shared-slice-read-b returns returns-2 returns-3)
+digit-at-spec = tie.close (tie.spec (λ c. search needs) returns returns-2 returns-3)

@@ -5,9 +5,6 @@ use Rattle.sheet.specs.Parse.{fits}
 use Rattle.sheet.proofs.parse.fits.Statement.{statement}
 use Rattle.sheet.proofs.parse.fits.Tie as tie
 
-begins-requires : tie.Need-begins-requires
-begins-requires c κs = search needs
-
 returns : tie.Need-returns
 unfolding fits
 returns c = simp (eq-eqb _ _ (c .before .if1 .taken), ← c .begins .ensures)
@@ -17,4 +14,4 @@ unfolding fits
 returns-2 c = simp (ne-eqb _ _ (c .if1 .left))
 
 pub fits-spec : {M : Type 1} → statement M
-fits-spec = tie.close (tie.spec begins-requires returns returns-2)
+fits-spec = tie.close (tie.spec (λ c κs. search needs) returns returns-2)

@@ -9,24 +9,9 @@ use Rattle.sheet.proofs.Laws.{long-enough, rest-of}
 use Rattle.sheet.proofs.parse.parse.Statement.{statement}
 use Rattle.sheet.proofs.parse.parse.Tie as tie
 
-slice-aggregate-fits : tie.Need-slice-aggregate-fits
-slice-aggregate-fits c = search needs
-
-fits-requires : tie.Need-fits-requires
-fits-requires c κs = search needs
-
-digit-at-requires : tie.Need-digit-at-requires
-digit-at-requires c κs = search needs
-
 returns : tie.Need-returns
 unfolding parsed reported bytes pick
 returns c = simp (← c .before .before .fits2 .ensures, c .before .if1 .taken, ← c .digit-at .ensures)
-
-slice-aggregate-begins : tie.Need-slice-aggregate-begins
-slice-aggregate-begins c = search needs
-
-begins-requires : tie.Need-begins-requires
-begins-requires c κs = search needs
 
 sub-view-in : tie.Need-sub-view-in
 unfolding bytes
@@ -35,18 +20,6 @@ sub-view-in c = long-enough (bytes "r P ") _ (sym (c .before .begins .ensures) �
 part-view-in-start : tie.Need-part-view-in-start
 unfolding bytes
 part-view-in-start c = long-enough (bytes "r P ") _ (sym (c .before .begins .ensures) ∙ c .if2 .taken)
-
-part-view-in-end : tie.Need-part-view-in-end
-part-view-in-end c = search needs
-
-view-in-requires : tie.Need-view-in-requires
-view-in-requires c κs = search needs
-
-digit-at-requires-2 : tie.Need-digit-at-requires-2
-digit-at-requires-2 c κs = search needs
-
-cast-t22 : tie.Need-cast-t22
-cast-t22 c = search needs
 
 returns-2 : tie.Need-returns-2
 unfolding parsed reported bytes pick
@@ -79,18 +52,6 @@ returns-3 c =
       le-ltb _ _ (c .if3 .left),
     )
 
-slice-aggregate-fits-2 : tie.Need-slice-aggregate-fits-2
-slice-aggregate-fits-2 c = search needs
-
-fits-requires-2 : tie.Need-fits-requires-2
-fits-requires-2 c κs = search needs
-
-digit-at-requires-3 : tie.Need-digit-at-requires-3
-digit-at-requires-3 c κs = search needs
-
-digit-at-requires-4 : tie.Need-digit-at-requires-4
-digit-at-requires-4 c κs = search needs
-
 returns-4 : tie.Need-returns-4
 unfolding parsed reported bytes pick
 returns-4 c =
@@ -107,18 +68,6 @@ returns-4 c =
       ← c .before .digit-at3 .ensures,
       ← c .digit-at4 .ensures,
     )
-
-slice-aggregate-fits-3 : tie.Need-slice-aggregate-fits-3
-slice-aggregate-fits-3 c = search needs
-
-fits-requires-3 : tie.Need-fits-requires-3
-fits-requires-3 c κs = search needs
-
-digit-at-requires-5 : tie.Need-digit-at-requires-5
-digit-at-requires-5 c κs = search needs
-
-digit-at-requires-6 : tie.Need-digit-at-requires-6
-digit-at-requires-6 c κs = search needs
 
 returns-5 : tie.Need-returns-5
 unfolding parsed reported bytes pick
@@ -139,15 +88,6 @@ returns-5 c =
       ← c .before .digit-at5 .ensures,
       ← c .digit-at6 .ensures,
     )
-
-slice-aggregate-fits-4 : tie.Need-slice-aggregate-fits-4
-slice-aggregate-fits-4 c = search needs
-
-fits-requires-4 : tie.Need-fits-requires-4
-fits-requires-4 c κs = search needs
-
-digit-at-requires-7 : tie.Need-digit-at-requires-7
-digit-at-requires-7 c κs = search needs
 
 returns-6 : tie.Need-returns-6
 unfolding parsed reported bytes pick
@@ -195,32 +135,32 @@ pub parse-spec : {M : Type 1} → statement M
 parse-spec =
     tie.close
     (tie.spec
-    slice-aggregate-fits
-    fits-requires
-    digit-at-requires
+    (λ c. search needs)
+    (λ c κs. search needs)
+    (λ c κs. search needs)
     returns
-    slice-aggregate-begins
-    begins-requires
+    (λ c. search needs)
+    (λ c κs. search needs)
     sub-view-in
     part-view-in-start
-    part-view-in-end
-    view-in-requires
-    digit-at-requires-2
-    cast-t22
+    (λ c. search needs)
+    (λ c κs. search needs)
+    (λ c κs. search needs)
+    (λ c. search needs)
     returns-2
     returns-3
-    slice-aggregate-fits-2
-    fits-requires-2
-    digit-at-requires-3
-    digit-at-requires-4
+    (λ c. search needs)
+    (λ c κs. search needs)
+    (λ c κs. search needs)
+    (λ c κs. search needs)
     returns-4
-    slice-aggregate-fits-3
-    fits-requires-3
-    digit-at-requires-5
-    digit-at-requires-6
+    (λ c. search needs)
+    (λ c κs. search needs)
+    (λ c κs. search needs)
+    (λ c κs. search needs)
     returns-5
-    slice-aggregate-fits-4
-    fits-requires-4
-    digit-at-requires-7
+    (λ c. search needs)
+    (λ c κs. search needs)
+    (λ c κs. search needs)
     returns-6
     returns-7)

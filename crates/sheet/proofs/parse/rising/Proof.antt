@@ -18,17 +18,8 @@ abbrev μ-loop : tie.MeasureT-loop
 loop-holds : tie.Need-loop-holds Inv-loop μ-loop
 loop-holds c = (omega arith, omega arith, refl)
 
-shared-slice-read-b : tie.Need-shared-slice-read-b Inv-loop μ-loop
-shared-slice-read-b c = search needs
-
-and-requires : tie.Need-and-requires Inv-loop μ-loop
-and-requires c κs = search needs
-
 sub-t12 : tie.Need-sub-t12 Inv-loop μ-loop
 sub-t12 c = still-digit _ _ _ _ (c .before .and .ensures) (c .if1 .taken) (c .before .before .before .before .loop .inv .0)
-
-with-requires : tie.Need-with-requires Inv-loop μ-loop
-with-requires c κs = search needs
 
 returns : tie.Need-returns Inv-loop μ-loop
 returns c = let l = c .before .before .before .before .loop in
@@ -60,10 +51,10 @@ rising-spec =
     Inv-loop
     μ-loop
     loop-holds
-    shared-slice-read-b
-    and-requires
+    (λ c. search needs)
+    (λ c κs. search needs)
     sub-t12
-    with-requires
+    (λ c κs. search needs)
     returns
     add-i
     loop-less

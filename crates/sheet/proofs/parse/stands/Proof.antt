@@ -6,15 +6,6 @@ use Rattle.sheet.specs.Parse.{stands}
 use Rattle.sheet.proofs.parse.stands.Statement.{statement}
 use Rattle.sheet.proofs.parse.stands.Tie as tie
 
-and-requires : tie.Need-and-requires
-and-requires c κs = search needs
-
-or-requires : tie.Need-or-requires
-or-requires c κs = search needs
-
-and-requires-2 : tie.Need-and-requires-2
-and-requires-2 c κs = search needs
-
 returns : tie.Need-returns
 unfolding stands pick
 returns c = simp (eq-eqb _ _ (c .before .if1 .taken), c .and .ensures)
@@ -29,4 +20,4 @@ returns-3 c = simp (ne-eqb _ _ (c .before .before .if1 .left), ← c .before .or
 
 pub stands-spec : {M : Type 1} → statement M
 stands-spec =
-    tie.close (tie.spec and-requires or-requires and-requires-2 returns returns-2 returns-3)
+    tie.close (tie.spec (λ c κs. search needs) (λ c κs. search needs) (λ c κs. search needs) returns returns-2 returns-3)

@@ -7,15 +7,6 @@ use Rattle.sheet.specs.Parse.{viewIn}
 use Rattle.sheet.proofs.parse.view_in.Statement.{statement}
 use Rattle.sheet.proofs.parse.view_in.Tie as tie
 
-slice-aggregate-fits : tie.Need-slice-aggregate-fits
-slice-aggregate-fits c = search needs
-
-fits-requires : tie.Need-fits-requires
-fits-requires c κs = search needs
-
-rising-requires : tie.Need-rising-requires
-rising-requires c κs = search needs
-
 returns : tie.Need-returns
 unfolding viewIn bytes pick
 returns c = simp (← c .before .fits2 .ensures, c .if1 .taken)
@@ -31,4 +22,4 @@ returns-3 c = simp (← c .before .before .before .fits2 .ensures, c .before .be
 pub view-in-spec : {M : Type 1} → statement M
 view-in-spec =
     tie.close
-    (tie.spec slice-aggregate-fits fits-requires rising-requires returns returns-2 returns-3)
+    (tie.spec (λ c. search needs) (λ c κs. search needs) (λ c κs. search needs) returns returns-2 returns-3)

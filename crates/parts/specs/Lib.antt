@@ -1,0 +1,2 @@
+-- A step in parts.
+pub mod Parts

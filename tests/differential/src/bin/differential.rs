@@ -1,0 +1,339 @@
+//! The proved library beside the reference, on the same sheets and images. The seeds are fixed; a
+//! difference is told with its seed, and a way to a number that was met too seldom fails the test.
+
+use differential::dice::Dice;
+use differential::faults::{DAMAGES, FAULTS};
+use differential::lines::{any_bytes, bad, line, FIRST, LATER};
+use differential::our_step;
+use differential::poised::{disturb, poise};
+use differential::ways::{way, By, Ways, AT_LEAST};
+use lobstercreel as ours;
+use reference::image::{decode, encode, Image, SIZE};
+use reference::{number, sound, ProcessId, Step, System, SHEET_LIMIT};
+
+/// How many of each part, with the seeds 0 to one less.
+const RUNS: u64 = 4_000;
+const HANDED_IN: u64 = 30_000;
+const DAMAGED: u64 = 500;
+const SHEETS: u64 = 12_000;
+
+/// A sheet of so many bytes is counted as a long one that is run.
+const LONG: usize = 40_000;
+
+/// What stands around an image and an output, and must stay.
+const GUARD: u8 = 0xa5;
+const MARGIN: usize = 64;
+
+fn main() {
+    println!("seeds: runs 0 to {}, images handed in 0 to {}", RUNS - 1, HANDED_IN - 1);
+    println!("       damaged images 0 to {} each, sheets 0 to {}", DAMAGED - 1, SHEETS - 1);
+    let mut ways = Ways::default();
+    fresh_systems(&mut ways);
+    (0..RUNS).for_each(|seed| run(seed, &mut ways));
+    (0..HANDED_IN).for_each(|seed| handed_in(seed, &mut ways));
+    (0..DAMAGED).for_each(|seed| damaged(seed, &mut ways));
+    wrong_lengths(&mut ways);
+    (0..SHEETS).for_each(|seed| sheet(seed, &mut ways));
+    every_room(&mut ways);
+    let met = ways.all_met();
+    assert!(met, "a way was met less than {AT_LEAST} times");
+    println!("no difference; each way met {AT_LEAST} times or more");
+}
+
+fn our_number(answer: ours::Answer) -> u8 {
+    answer.map_or_else(|refusal| refusal.0, |()| 0)
+}
+
+/// What the papers say of a step on an image: the number, and the image after it.
+fn expected(image: &Image, step: Step, ways: &mut Ways) -> (u8, Image) {
+    let Some(before) = decode(image) else {
+        return (1, *image);
+    };
+    let mut after = before.clone();
+    let number = number(step.run(&mut after));
+    if number != 1 {
+        ways.count(By::Image, way(&before, step, number));
+    }
+    (number, if number == 0 { encode(&after) } else { *image })
+}
+
+/// Does the step on the image, which lies between bytes that must stay.
+fn our_answer(image: &mut Image, step: Step) -> u8 {
+    let mut memory = [GUARD; SIZE + 2 * MARGIN];
+    let lent = &mut memory[MARGIN..MARGIN + SIZE];
+    lent.copy_from_slice(image);
+    let number = our_number(ours::step(lent, our_step(step)));
+    image.copy_from_slice(lent);
+    assert!(memory[..MARGIN].iter().chain(&memory[MARGIN + SIZE..]).all(|&byte| byte == GUARD));
+    number
+}
+
+fn compare(image: &mut Image, step: Step, seed: u64, ways: &mut Ways) -> u8 {
+    let wanted = expected(image, step, ways);
+    let number = our_answer(image, step);
+    assert_eq!(number, wanted.0, "seed {seed}: {step:?}");
+    assert!(*image == wanted.1, "seed {seed}: {step:?} left another image");
+    number
+}
+
+fn fresh_systems(ways: &mut Ways) {
+    for n in 0..=u8::MAX {
+        let (outcome, system) = reference::fresh(n);
+        let mut image = [GUARD; SIZE];
+        assert_eq!(our_number(ours::fresh(&mut image, n)), number(outcome), "fresh {n}");
+        assert!(image == encode(&system), "fresh {n}");
+        if outcome.is_err() {
+            ways.count(By::Image, "2 fresh");
+        }
+    }
+}
+
+/// Steps from a fresh system, each handed the image that the one before left.
+fn run(seed: u64, ways: &mut Ways) {
+    let mut dice = Dice::new(seed);
+    let n = 1 + (seed % 8) as u8;
+    let mut image = encode(&reference::fresh(n).1);
+    if dice.one_in(4) {
+        for step in dice.opening(n) {
+            compare(&mut image, step, seed, ways);
+        }
+    }
+    let mix = dice.mix(n);
+    for _ in 0..300 {
+        let system = decode(&image).expect("an image");
+        let step = dice.likely_step(&system, mix);
+        compare(&mut image, step, seed, ways);
+    }
+    entries(&image, seed);
+}
+
+/// The wrapper reads the same histories, and none of processes and positions that there are not.
+fn entries(image: &Image, seed: u64) {
+    let (ours, system) = (ours::System::from_image(*image), decode(image).expect("an image"));
+    for (p, i) in (0..=u8::MAX).flat_map(|p| (0..=40).map(move |i| (p, i))) {
+        let there = (1..=8).contains(&p) && (1..=32).contains(&i);
+        let entry = there.then(|| system.process(ProcessId(p)).history[usize::from(i) - 1].0);
+        assert_eq!(ours.entry(p, i), entry.filter(|&view| view != 0), "seed {seed}: {p} at {i}");
+    }
+}
+
+/// A system of n processes that some steps have left.
+fn reached(dice: &mut Dice, n: u8) -> System {
+    let mut system = reference::fresh(n).1;
+    let mix = dice.mix(n);
+    for _ in 0..dice.roll(60) {
+        let _ = dice.likely_step(&system, mix).run_on_sound(&mut system);
+    }
+    system
+}
+
+/// Some steps, each on the same image that no run has left: sound or not, an image or not.
+fn handed_in(seed: u64, ways: &mut Ways) {
+    let mut dice = Dice::new(!seed);
+    let n = dice.one_of(8).0;
+    let mut system = reached(&mut dice, n);
+    for _ in 0..dice.roll(4) {
+        disturb(&mut dice, &mut system);
+    }
+    let due = if dice.one_in(2) { poise(&mut dice, &mut system) } else { dice.any_step(n) };
+    let mut image = encode(&system);
+    if dice.one_in(8) {
+        for _ in 0..=dice.roll(4) {
+            image[dice.roll(SIZE)] = if dice.one_in(2) { dice.byte() } else { dice.roll(4) as u8 };
+        }
+    }
+    if dice.one_in(50) {
+        image.iter_mut().for_each(|byte| *byte = dice.byte());
+        return refused_with_1(&mut dice, image, seed, "1 any bytes", ways);
+    }
+    compare(&mut image.clone(), due, seed, ways);
+    for _ in 0..10 {
+        let step = dice.any_step(n);
+        compare(&mut image.clone(), step, seed, ways);
+    }
+}
+
+/// One sentence of soundness broken in a sound system, or one byte damaged: each step gives 1.
+fn damaged(seed: u64, ways: &mut Ways) {
+    let mut dice = Dice::new(seed ^ 0xda3a6ed);
+    let n = dice.one_of(8).0;
+    let (p, q) = (dice.one_of(n), dice.one_of(n));
+    let mut system = reached(&mut dice, n);
+    system.process_mut(p).crashed = false;
+    assert!(sound(&system), "seed {seed}");
+    for (name, fault) in FAULTS {
+        let mut broken = system.clone();
+        fault(&mut dice, &mut broken, p, q);
+        // With eight units there is none beyond.
+        assert_eq!(sound(&broken), n == 8 && name.ends_with("beyond n"), "seed {seed}: {name}");
+        if !sound(&broken) {
+            refused_with_1(&mut dice, encode(&broken), seed, name, ways);
+        }
+    }
+    for (name, place) in DAMAGES {
+        let mut image = encode(&system);
+        let (at, highest) = place(&mut dice);
+        image[at] = dice.pick(&[highest + 1, highest + 2, 128, 255]);
+        assert!(decode(&image).is_none(), "seed {seed}: {name}");
+        refused_with_1(&mut dice, image, seed, name, ways);
+    }
+}
+
+fn refused_with_1(dice: &mut Dice, image: Image, seed: u64, name: &'static str, ways: &mut Ways) {
+    for _ in 0..4 {
+        let step = dice.any_step(8);
+        assert_eq!(compare(&mut image.clone(), step, seed, ways), 1, "seed {seed}: {name}");
+    }
+    ways.count(By::Image, name);
+}
+
+/// Anything of another length is refused with 1 and left as it was.
+fn wrong_lengths(ways: &mut Ways) {
+    let good = encode(&reference::fresh(3).1);
+    for length in (0..3 * SIZE).filter(|&length| length != SIZE) {
+        let before: Vec<u8> = good.iter().cycle().take(length + MARGIN).copied().collect();
+        let mut memory = before.clone();
+        let image = &mut memory[..length];
+        let (one, two) = (ProcessId(1), ProcessId(2));
+        for step in [
+            Step::Report { p: one, view: reference::View(7) },
+            Step::Receive { from: one, at: two },
+            Step::Respond { p: one, to: two },
+            Step::Crash { p: one },
+        ] {
+            assert_eq!(our_number(ours::step(image, our_step(step))), 1, "length {length}");
+        }
+        assert_eq!(our_number(ours::fresh(image, 3)), 1, "length {length}");
+        assert!(memory == before, "length {length}");
+        ways.count(By::Image, "1 wrong length");
+    }
+}
+
+/// A sheet, and each line's way and number.
+#[derive(Default)]
+struct Sheet {
+    text: Vec<u8>,
+    lines: Vec<(&'static str, u8)>,
+}
+
+impl Sheet {
+    fn add(&mut self, line: &[u8], way: &'static str, number: u8) {
+        self.text.extend(line);
+        self.text.push(b'\n');
+        self.lines.push((way, number));
+    }
+
+    /// The line of a step, which the system makes too.
+    fn add_step(&mut self, step: Step, system: &mut System) {
+        let before = system.clone();
+        let number = number(step.run_on_sound(system));
+        self.add(line(step).as_bytes(), way(&before, step, number), number);
+    }
+}
+
+/// A sheet by chance, of mostly good lines.
+fn written(dice: &mut Dice, n: u8) -> Sheet {
+    let mut sheet = Sheet::default();
+    let lines = if dice.one_in(100) { 6_000 + dice.roll(5_000) } else { dice.roll(300) };
+    if dice.one_in(12) {
+        let (kind, first) = bad(dice, FIRST);
+        sheet.add(&first, kind, 8);
+        if dice.one_in(2) {
+            sheet.add(format!("u {n}").as_bytes(), "8 good first line too late", 8);
+        }
+        for _ in 0..lines {
+            let step = dice.any_step(n);
+            sheet.add(line(step).as_bytes(), "8 after a bad first line", 8);
+        }
+    } else {
+        // A good first line is not printed, so this way is not counted.
+        sheet.add(format!("u {n}").as_bytes(), "", 0);
+        let mut system = reference::fresh(n).1;
+        if dice.one_in(4) {
+            dice.opening(n).into_iter().for_each(|step| sheet.add_step(step, &mut system));
+        }
+        let mix = dice.mix(n);
+        for _ in 0..lines {
+            match dice.roll(120) {
+                0 => sheet.add(&any_bytes(dice), "8 any bytes", 8),
+                1..=4 => {
+                    let (kind, line) = bad(dice, LATER);
+                    sheet.add(&line, kind, 8);
+                }
+                _ => sheet.add_step(dice.likely_step(&system, mix), &mut system),
+            }
+        }
+    }
+    if dice.one_in(4) && !sheet.text.ends_with(b"\n\n") && sheet.text != b"\n" {
+        sheet.text.pop();
+    }
+    if dice.one_in(60) && sheet.text.len() < SHEET_LIMIT {
+        sheet.text.resize(SHEET_LIMIT + dice.pick(&[0, 1, 2, 100_000]), b'\n');
+    }
+    if dice.one_in(200) {
+        sheet = Sheet::default();
+    }
+    sheet
+}
+
+/// A whole sheet: the outputs are the same, and so are they in a buffer of any room.
+fn sheet(seed: u64, ways: &mut Ways) {
+    let mut dice = Dice::new(seed ^ 0x5eed);
+    let sheet = written(&mut dice, 1 + (seed % 8) as u8);
+    let wanted = reference::run_sheet(&sheet.text);
+    assert!(ours::run_sheet(&sheet.text) == wanted, "seed {seed}: the outputs differ");
+    count_lines(&sheet, &wanted, seed, ways);
+    let short = dice.roll(wanted.len() + 1);
+    let room = dice.pick(&[0, short, wanted.len(), wanted.len() + 9]);
+    in_room(&sheet.text, &wanted, room, ways);
+}
+
+/// Counts the ways of a sheet's lines, each of which has its number.
+fn count_lines(sheet: &Sheet, wanted: &[u8], seed: u64, ways: &mut Ways) {
+    let mut count = |way| ways.count(By::Sheet, way);
+    match sheet.text.len() {
+        0 => count("no line at all"),
+        SHEET_LIMIT => count("60,000 bytes"),
+        length if (LONG..SHEET_LIMIT).contains(&length) => count("40,000 bytes and more"),
+        length if length > SHEET_LIMIT => {
+            assert!(wanted == b"0 9\n", "seed {seed}");
+            let one = length == SHEET_LIMIT + 1;
+            return count(if one { "9 one byte too many" } else { "9 many bytes too many" });
+        }
+        _ => (),
+    }
+    if sheet.text.last().is_some_and(|&byte| byte != b'\n') {
+        count("no line feed at the end");
+    }
+    let bad_first = wanted.starts_with(b"1 8\n");
+    let lines = sheet.lines.iter().zip(1..).skip(if bad_first { 0 } else { 1 });
+    for ((&(way, number), at), printed) in lines.zip(wanted.split(|&byte| byte == b'\n')) {
+        assert!(printed == format!("{at} {number}").as_bytes(), "seed {seed}, line {at}");
+        count(way);
+    }
+}
+
+/// A buffer gets as much of the output as it has room for, and nothing past that is written.
+fn in_room(sheet: &[u8], wanted: &[u8], room: usize, ways: &mut Ways) {
+    let mut memory = vec![GUARD; room + MARGIN];
+    let written = ours::run_sheet_into(sheet, &mut memory[..room]);
+    assert_eq!(written, room.min(wanted.len()), "room {room}");
+    assert!(memory[..written] == wanted[..written], "room {room}");
+    assert!(memory[written..].iter().all(|&byte| byte == GUARD), "room {room}");
+    ways.count(
+        By::Sheet,
+        match room {
+            0 => "buffer of no bytes",
+            _ if room < wanted.len() => "buffer too short",
+            _ if room == wanted.len() => "buffer just long enough",
+            _ => "buffer longer than needed",
+        },
+    );
+}
+
+/// One small sheet, with every room up to more than is needed.
+fn every_room(ways: &mut Ways) {
+    let sheet = b"u 8\nr 1 12345678\nt 1 1\nx\n";
+    let wanted = reference::run_sheet(sheet);
+    (0..wanted.len() + MARGIN).for_each(|room| in_room(sheet, &wanted, room, ways));
+}
