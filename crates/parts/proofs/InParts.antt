@@ -130,7 +130,7 @@ module _ (s : System) (i j : ℕ) (d : Process) (f : Channel) (takes stops : Boo
 
   refused-outcome : (k : ℕ) → eqb k 0 ≡ false → outcome (refusing k actor) ≡ refused k s
   unfolding pick eachUpTo leftOf
-  refused-outcome k nonzero = rw (nonzero, set-set, set-getD, set-getD)
+  refused-outcome k nonzero = rw (nonzero, set-set, set-getD (s .processes) i d, set-getD (s .channels) (8 * j + i) f)
 
   settled-done : (b : Plan) → eqb (b .refusal) 0 ≡ true → settled b ≡ withProcess off (i + 1) (b .process)
   unfolding withProcess

@@ -1,4 +1,5 @@
 -- `parts::scope_of`: by the kind of the step.
+use mathlib.Core.Path.{sym, ap}
 use Rattle.parts.specs.Parts.{scopeOf}
 use borrow.Author.Needs.{needs}
 use Rattle.parts.proofs.scope_of.Statement.{statement}
@@ -6,19 +7,19 @@ use Rattle.parts.proofs.scope_of.Tie as tie
 
 returns : tie.Need-returns
 unfolding scopeOf
-returns c = rw (c .before .o .given .1)
+returns c = sym (ap scopeOf (c .before .o .given .1))
 
 returns-2 : tie.Need-returns-2
 unfolding scopeOf
-returns-2 c = rw (c .before .o2 .given .1)
+returns-2 c = sym (ap scopeOf (c .before .o2 .given .1))
 
 returns-3 : tie.Need-returns-3
 unfolding scopeOf
-returns-3 c = rw (c .before .o3 .given .1)
+returns-3 c = sym (ap scopeOf (c .before .o3 .given .1))
 
 returns-4 : tie.Need-returns-4
 unfolding scopeOf
-returns-4 c = rw (c .before .o4 .given .1)
+returns-4 c = sym (ap scopeOf (c .before .o4 .given .1))
 
 pub scope-of-spec : {M : Type 1} → statement M
 scope-of-spec =
