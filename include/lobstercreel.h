@@ -1,13 +1,16 @@
 /* Lobstercreel: the proved steps of the membership algorithm, for firmware in C.
  *
  * The library keeps nothing between calls and allocates nothing. The caller lends an image: 2,097 bytes that hold the whole system,
- * every field one byte. Each function answers a number and changes nothing but what it was lent. On any answer but 0 a step leaves
- * the image as it was, byte for byte. Any bytes may be handed over: what is no image, or no sound system, is refused with 1.
+ * every field one byte. Each function answers a number and changes nothing but what it was lent. A step that is refused leaves the
+ * image as it was, byte for byte; lobstercreel_fresh is no step, and for a wrong n it writes a system of zero units. Any bytes may be
+ * handed over: what is no image, or no sound system, is refused with 1. What lies past n or past a line's length means nothing; it may
+ * hold anything, and a step that is done may change it.
  *
- * A step takes about 22 KB of stack, lobstercreel_fresh 6 KB (measured on x86-64).
+ * STACK (measured on x86-64 by tests/stack): a step, a list of steps and lobstercreel_fresh take less than 600 bytes, lobstercreel_run
+ * less than 3 KB.
  *
- * Build the library with `rt staticlib capi` and link target/staticlib/libcapi.a (x86-64). docs/IMAGE.md has the layout as a table,
- * and where each sentence here is proved.
+ * Build the library with `rt staticlib capi` and link target/staticlib/libcapi.a (x86-64 only). docs/IMAGE.md has the layout as a
+ * table, and where each sentence here is proved.
  *
  * A pointer must not be null, must point to as many bytes as the length after it says, and two buffers of one call must not overlap:
  * these three things no proof can ask of C.
@@ -43,19 +46,22 @@ extern "C" {
 /* The tag of a recorded proposal. */
 enum { LOBSTERCREEL_NOTHING, LOBSTERCREEL_PROPOSED };
 
-/* The tag of a message, with its operands: Propose view position, Retry old new, Acc position 0, Commit view position. */
+/* The tag of a message, with its operands: Propose view position, Retry old new, Acc position (and a byte that means nothing),
+ * Commit view position. */
 enum { LOBSTERCREEL_PROPOSE, LOBSTERCREEL_RETRY, LOBSTERCREEL_ACC, LOBSTERCREEL_COMMIT };
 
 /* What a step answers. */
 enum {
     LOBSTERCREEL_DONE = 0,         /* the image is that of the next system */
-    LOBSTERCREEL_UNSOUND = 1,      /* no sound system: a wrong length, a damaged image, or an unsound table */
+    LOBSTERCREEL_UNSOUND = 1,      /* not the length of an image, or no sound system */
     LOBSTERCREEL_STRANGER = 2,     /* a unit number is not 1 to n */
     LOBSTERCREEL_STOPPED = 3,      /* the unit that would act has stopped */
     LOBSTERCREEL_ODD_VIEW = 4,     /* the reported view names a unit beyond n, or lacks its own unit */
     LOBSTERCREEL_NOTHING_THERE = 5,/* an empty line; or no recorded proposal of the local view */
     LOBSTERCREEL_HISTORY_FULL = 6, /* the proposal would pass position 32 */
-    LOBSTERCREEL_LINE_FULL = 7     /* a message of this step finds a line that holds 8 */
+    LOBSTERCREEL_LINE_FULL = 7,    /* a message of this step finds a line that holds 8 */
+    LOBSTERCREEL_BAD_LINE = 8,     /* in a list of steps: a kind that there is not, or a step that breaks off */
+    LOBSTERCREEL_LONG_SHEET = 9    /* what a sheet of more than 60,000 bytes prints */
 };
 
 /* Writes the image of the fresh system of n units. 0; or 2 for an n outside 1 to 8, and then the image is that of a system of zero
@@ -73,6 +79,16 @@ uint8_t lobstercreel_respond(uint8_t *image, size_t length, uint8_t p, uint8_t q
 
 /* Unit p stops for good. */
 uint8_t lobstercreel_crash(uint8_t *image, size_t length, uint8_t p);
+
+/* The kinds of step in a list, each with its two operands: unit and view, from and at, unit and to, unit and a byte that means
+ * nothing. */
+enum { LOBSTERCREEL_REPORT, LOBSTERCREEL_RECEIVE, LOBSTERCREEL_RESPOND, LOBSTERCREEL_CRASH };
+#define LOBSTERCREEL_STEP 3 /* how many bytes a step of a list has: its kind and the operands */
+
+/* Does a list of steps, one after the other, each of them refused or not, as the calls above would; the system's soundness is tested
+ * once. The number of each goes into `numbers`: as many steps are done as it has places, and what lies past them stays. Answers how
+ * many. A kind that there is not, and bytes that break off inside a step, are refused with 8 in their turn. */
+size_t lobstercreel_steps(uint8_t *image, size_t length, const uint8_t *list, size_t list_length, uint8_t *numbers, size_t places);
 
 /* Runs a whole sheet and writes what the bench program prints for it, as far as `out` has room; what lies past it in `out` stays.
  * Answers how many bytes were written. Less than `room` is the whole output; as many as `room` may be cut off. A buffer of

@@ -1,112 +1,427 @@
-/* The library as C calls it: the header's places, every byte of an image damaged in turn, and random runs of calls against the
- * sheet runner.
+/* The library as C calls it: every place and every name of the header, for every unit, record, position, line and slot; every byte of
+ * a full table damaged in turn; and random runs of calls against the sheet runner.
  *
  *   rt staticlib capi
  *   cc -I include tests/image.c target/staticlib/libcapi.a -o target/image && ./target/image
  *
- * The equations are proved; this tests what no proof sees: that C passes what the library takes.
+ * The equations are proved; this tests what no proof sees: that C passes what the library takes, and that the header says what the
+ * library does. Each expected image is made from the one before by the header's names alone.
  */
+#include <stdarg.h>
 #include <stdio.h>
 #include <stdlib.h>
 #include <string.h>
 
 #include "lobstercreel.h"
 
-enum { SEEDS = 300 };
+enum { SEEDS = 300, TOLD = 20, GUARD = 64, MARK = 77 };
 
-static uint8_t image[LOBSTERCREEL_IMAGE + 1], before[LOBSTERCREEL_IMAGE];
-static uint8_t sheet[60000], out[LOBSTERCREEL_OUTPUT], expected[LOBSTERCREEL_OUTPUT];
-static int passed, failed;
+/* The image that is lent lies between bytes that must stay. */
+static uint8_t memory[GUARD + LOBSTERCREEL_IMAGE + GUARD];
+static uint8_t *const image = memory + GUARD;
+static uint8_t before[LOBSTERCREEL_IMAGE], wanted[LOBSTERCREEL_IMAGE];
+static uint8_t list[LOBSTERCREEL_STEP * 400], numbers[400 + GUARD], answers[400];
+static uint8_t sheet[60000], out[LOBSTERCREEL_OUTPUT + GUARD], expected[LOBSTERCREEL_OUTPUT + GUARD];
+static const size_t length = LOBSTERCREEL_IMAGE;
+static long passed, failed;
 
-static void expect(int ok, const char *what) {
-    if (ok) passed++;
-    else { failed++; printf("failed: %s\n", what); }
+static void expect(int ok, const char *what, ...) {
+    if (ok) { passed++; return; }
+    if (failed++ >= TOLD) return;
+    va_list rest;
+    va_start(rest, what);
+    printf("failed: ");
+    vprintf(what, rest);
+    printf("\n");
+    va_end(rest);
 }
 
-static int unchanged(void) { return memcmp(before, image, LOBSTERCREEL_IMAGE) == 0; }
+/* Units and views. */
+static uint8_t only(int p) { return (uint8_t)(1 << (p - 1)); }
+static uint8_t all(int n) { return (uint8_t)((1 << n) - 1); }
+static uint8_t both(int p, int q) { return only(p) | only(q); }
 
+/* A field of unit p; a record of unit p; a message and the length of a line. */
+static uint8_t *field(uint8_t *of, int p, int which) { return of + LOBSTERCREEL_UNIT(p) + which; }
+static uint8_t *line_length(uint8_t *of, int q, int p) { return of + LOBSTERCREEL_LINE(q, p) + LOBSTERCREEL_LENGTH; }
+static uint8_t *record(uint8_t *of, int p, int q) { return of + LOBSTERCREEL_UNIT(p) + LOBSTERCREEL_RECORD(q); }
+static uint8_t *entry(uint8_t *of, int p, int i) { return of + LOBSTERCREEL_UNIT(p) + LOBSTERCREEL_ENTRY(i); }
+static uint8_t *slot(uint8_t *of, int q, int p, int k) { return of + LOBSTERCREEL_LINE(q, p) + LOBSTERCREEL_SLOT(k); }
+
+static void set(uint8_t *at, int a, int b, int c) {
+    at[0] = (uint8_t)a;
+    at[1] = (uint8_t)b;
+    at[2] = (uint8_t)c;
+}
+
+/* Puts a message last on a line; takes the oldest off. */
+static void put(uint8_t *of, int q, int p, int tag, int a, int b) { set(slot(of, q, p, (*line_length(of, q, p))++), tag, a, b); }
+static void take(uint8_t *of, int q, int p) {
+    (*line_length(of, q, p))--;
+    for (int k = 0; k < *line_length(of, q, p); k++) memcpy(slot(of, q, p, k), slot(of, q, p, k + 1), 3);
+}
+
+/* Do two slots hold the same message? Acc has one operand. */
+static int same_message(const uint8_t *a, const uint8_t *b) {
+    return a[0] == b[0] && a[1] == b[1] && (a[0] == LOBSTERCREEL_ACC || a[2] == b[2]);
+}
+
+/* Are two images the same table, up to bytes that mean nothing? */
+static int same_table(uint8_t *a, uint8_t *b) {
+    int n = a[LOBSTERCREEL_N];
+    if (n > 8 || b[LOBSTERCREEL_N] != n) return 0;
+    for (int p = 1; p <= n; p++) {
+        static const int fields[] = {LOBSTERCREEL_CRASHED, LOBSTERCREEL_VIEW, LOBSTERCREEL_NEXT,
+                                     LOBSTERCREEL_PROPOUT, LOBSTERCREEL_PROPOSAL, LOBSTERCREEL_ACKS};
+        for (int i = 0; i < 6; i++)
+            if (*field(a, p, fields[i]) != *field(b, p, fields[i])) return 0;
+        for (int i = 1; i <= 32; i++)
+            if (*entry(a, p, i) != *entry(b, p, i)) return 0;
+        for (int q = 1; q <= n; q++) {
+            int there = *record(a, p, q) == LOBSTERCREEL_PROPOSED, waiting = *line_length(a, q, p);
+            if (memcmp(record(a, p, q), record(b, p, q), there ? 3 : 1) != 0) return 0;
+            if (waiting > 8 || *line_length(b, q, p) != waiting) return 0;
+            for (int k = 0; k < waiting; k++)
+                if (!same_message(slot(a, q, p, k), slot(b, q, p, k))) return 0;
+        }
+    }
+    return 1;
+}
+
+/* The next call is expected to leave what `wanted` is made to hold after this. */
+static void prepare(void) {
+    memcpy(before, image, length);
+    memcpy(wanted, image, length);
+}
+
+static int unchanged(void) { return memcmp(before, image, length) == 0; }
+static void done(uint8_t answer, const char *what, int a, int b, int c) {
+    expect(answer == LOBSTERCREEL_DONE && same_table(image, wanted), "%s (%d, %d, %d): answer %d", what, a, b, c, answer);
+}
+static void refused(uint8_t answer, uint8_t number, const char *what) {
+    expect(answer == number && unchanged(), "%s: answer %d and not %d, or another image", what, answer, number);
+}
+
+static void start(int n) {
+    memset(image, 0, length);
+    expect(lobstercreel_fresh(image, length, (uint8_t)n) == LOBSTERCREEL_DONE, "%d fresh units", n);
+}
+
+/* A view as a sheet has it. */
 static const char *digits(uint8_t view) {
     static char text[9];
     int n = 0;
     for (int k = 1; k <= 8; k++)
-        if (view >> (k - 1) & 1) text[n++] = (char)('0' + k);
+        if (view & only(k)) text[n++] = (char)('0' + k);
     text[n] = 0;
     return text;
 }
 
+/* The header's places cover the image, each byte once. */
+static void places(void) {
+    static int times[LOBSTERCREEL_IMAGE];
+    times[LOBSTERCREEL_N]++;
+    for (int p = 1; p <= 8; p++) {
+        for (int i = 0; i <= LOBSTERCREEL_ACKS; i++) times[LOBSTERCREEL_UNIT(p) + i]++;
+        for (int i = 1; i <= 32; i++) times[LOBSTERCREEL_UNIT(p) + LOBSTERCREEL_ENTRY(i)]++;
+        for (int q = 1; q <= 8; q++) {
+            for (int i = 0; i < 3; i++) times[LOBSTERCREEL_UNIT(p) + LOBSTERCREEL_RECORD(q) + i]++;
+            for (int k = 0; k < 8; k++)
+                for (int i = 0; i < 3; i++) times[LOBSTERCREEL_LINE(q, p) + LOBSTERCREEL_SLOT(k) + i]++;
+            times[LOBSTERCREEL_LINE(q, p) + LOBSTERCREEL_LENGTH]++;
+        }
+    }
+    for (int at = 0; at < LOBSTERCREEL_IMAGE; at++) expect(times[at] == 1, "byte %d is named %d times", at, times[at]);
+}
+
+/* Any length but that of an image is refused, and nothing is written. */
+static void lengths(void) {
+    start(2);
+    prepare();
+    for (int more = -1; more <= 1; more += 2) {
+        size_t other = length + (size_t)more;
+        refused(lobstercreel_fresh(image, other, 3), LOBSTERCREEL_UNSOUND, "fresh, another length");
+        refused(lobstercreel_report(image, other, 1, 3), LOBSTERCREEL_UNSOUND, "report, another length");
+        refused(lobstercreel_receive(image, other, 1, 1), LOBSTERCREEL_UNSOUND, "receive, another length");
+        refused(lobstercreel_respond(image, other, 1, 1), LOBSTERCREEL_UNSOUND, "respond, another length");
+        refused(lobstercreel_crash(image, other, 1), LOBSTERCREEL_UNSOUND, "crash, another length");
+    }
+}
+
 static void fresh(void) {
-    memset(image, 77, sizeof image);
-    expect(lobstercreel_fresh(image, LOBSTERCREEL_IMAGE - 1, 2) == 1 && image[0] == 77, "a shorter slice is refused and kept");
-    expect(lobstercreel_fresh(image, LOBSTERCREEL_IMAGE + 1, 2) == 1 && image[0] == 77, "a longer slice is refused and kept");
-    expect(lobstercreel_fresh(image, LOBSTERCREEL_IMAGE, 2) == 0 && image[0] == 2, "two units");
-    expect(image[LOBSTERCREEL_IMAGE] == 77, "nothing is written past the image");
-    expect(lobstercreel_fresh(image, LOBSTERCREEL_IMAGE, 9) == 2 && image[0] == 0, "nine units are refused: a system of none");
-    expect(lobstercreel_report(image, LOBSTERCREEL_IMAGE, 1, 1) == 1, "which is not sound");
+    for (int n = 1; n <= 8; n++) {
+        memset(wanted, 0, length);
+        wanted[LOBSTERCREEL_N] = (uint8_t)n;
+        for (int p = 1; p <= n; p++) {
+            *field(wanted, p, LOBSTERCREEL_VIEW) = all(n);
+            *field(wanted, p, LOBSTERCREEL_NEXT) = 2;
+            *field(wanted, p, LOBSTERCREEL_PROPOUT) = 1;
+            *entry(wanted, p, 1) = all(n);
+            for (int q = 1; q <= n; q++) *record(wanted, p, q) = LOBSTERCREEL_NOTHING;
+        }
+        memset(image, MARK, length);
+        done(lobstercreel_fresh(image, length, (uint8_t)n), "fresh", n, 0, 0);
+    }
+    for (int n = 0; n <= 255; n++) {
+        if (n >= 1 && n <= 8) continue;
+        memset(image, MARK, length);
+        expect(lobstercreel_fresh(image, length, (uint8_t)n) == LOBSTERCREEL_STRANGER, "fresh, %d units", n);
+        expect(image[LOBSTERCREEL_N] == 0, "%d units leave a system of none", n);
+        prepare();
+        refused(lobstercreel_report(image, length, 1, 1), LOBSTERCREEL_UNSOUND, "a system of none");
+    }
 }
 
-static int holds(int at, int a, int b, int c) { return image[at] == a && image[at + 1] == b && image[at + 2] == c; }
-
-/* The header's places and tags: one agreement of two units, looked at from step to step. */
-static void layout(void) {
-    int one = LOBSTERCREEL_UNIT(1), two = LOBSTERCREEL_UNIT(2), view = 3;
-    int to_two = LOBSTERCREEL_LINE(1, 2), to_one = LOBSTERCREEL_LINE(2, 1), record = two + LOBSTERCREEL_RECORD(1);
-    size_t n = LOBSTERCREEL_IMAGE;
-    lobstercreel_fresh(image, n, 2);
-    expect(image[LOBSTERCREEL_N] == 2 && image[one + LOBSTERCREEL_VIEW] == view, "n and the local view");
-    expect(image[one + LOBSTERCREEL_NEXT] == 2 && image[one + LOBSTERCREEL_ENTRY(1)] == view, "Next and position 1");
-    lobstercreel_report(image, n, 1, (uint8_t)view);
-    expect(image[one + LOBSTERCREEL_PROPOUT] == 2 && image[one + LOBSTERCREEL_PROPOSAL] == view, "PropOut and the proposal");
-    expect(image[to_two + LOBSTERCREEL_LENGTH] == 1, "one message waits");
-    expect(holds(to_two + LOBSTERCREEL_SLOT(0), LOBSTERCREEL_PROPOSE, view, 2), "a Propose");
-    expect(holds(record, LOBSTERCREEL_NOTHING, 0, 0), "no record");
-    lobstercreel_receive(image, n, 1, 2);
-    expect(image[to_two + LOBSTERCREEL_LENGTH] == 0 && holds(record, LOBSTERCREEL_PROPOSED, view, 2), "a record");
-    lobstercreel_respond(image, n, 2, 1);
-    expect(holds(to_one + LOBSTERCREEL_SLOT(0), LOBSTERCREEL_ACC, 2, 0), "an Acc");
-    lobstercreel_receive(image, n, 2, 1);
-    expect(image[one + LOBSTERCREEL_ACKS] == 2, "unit 2 has acknowledged");
-    lobstercreel_report(image, n, 2, 2);
-    lobstercreel_receive(image, n, 1, 1);
-    lobstercreel_respond(image, n, 1, 1);
-    lobstercreel_receive(image, n, 1, 1);
-    expect(holds(to_two + LOBSTERCREEL_SLOT(0), LOBSTERCREEL_COMMIT, view, 2), "a Commit");
-    lobstercreel_receive(image, n, 1, 2);
-    expect(image[two + LOBSTERCREEL_ENTRY(2)] == view, "position 2");
-    lobstercreel_crash(image, n, 2);
-    expect(image[two + LOBSTERCREEL_CRASHED] == 1 && image[one + LOBSTERCREEL_CRASHED] == 0, "unit 2 has stopped");
+/* Every unit reports every view that it can: it proposes where it is the least. */
+static void reports(void) {
+    for (int p = 1; p <= 8; p++)
+        for (int view = 0; view < 256; view++) {
+            if (!(view & only(p))) continue;
+            start(8);
+            prepare();
+            *field(wanted, p, LOBSTERCREEL_VIEW) = (uint8_t)view;
+            if ((view & all(p - 1)) == 0) {
+                *field(wanted, p, LOBSTERCREEL_PROPOUT) = 2;
+                *field(wanted, p, LOBSTERCREEL_PROPOSAL) = (uint8_t)view;
+                for (int q = 1; q <= 8; q++)
+                    if (view & only(q)) put(wanted, p, q, LOBSTERCREEL_PROPOSE, view, 2);
+            }
+            done(lobstercreel_report(image, length, (uint8_t)p, (uint8_t)view), "report", p, view, 0);
+        }
 }
 
-/* Unit 2 is ahead at Next 3 when unit 1 proposes at 2. */
-static void retry(void) {
-    size_t n = LOBSTERCREEL_IMAGE;
-    lobstercreel_fresh(image, n, 2);
-    lobstercreel_report(image, n, 2, 2);
-    lobstercreel_receive(image, n, 2, 2);
-    lobstercreel_respond(image, n, 2, 2);
-    lobstercreel_report(image, n, 2, 3);
-    lobstercreel_report(image, n, 1, 3);
-    lobstercreel_receive(image, n, 1, 2);
-    lobstercreel_respond(image, n, 2, 1);
-    expect(holds(LOBSTERCREEL_LINE(2, 1) + LOBSTERCREEL_SLOT(0), LOBSTERCREEL_RETRY, 2, 3), "a Retry");
+/* Eight messages on each line, taken one after the other: each slot, and each position of each unit. */
+static void commits(void) {
+    for (int q = 1; q <= 8; q++)
+        for (int p = 1; p <= 8; p++) {
+            start(8);
+            for (int k = 0; k < 8; k++) put(image, q, p, LOBSTERCREEL_COMMIT, both(p, q), 2 + (8 * q + k) % 31);
+            for (int k = 0; k < 8; k++) {
+                prepare();
+                take(wanted, q, p);
+                *entry(wanted, p, 2 + (8 * q + k) % 31) = both(p, q);
+                done(lobstercreel_receive(image, length, (uint8_t)q, (uint8_t)p), "take, Commit", q, p, k);
+            }
+        }
 }
 
-/* Is the byte at this place a stopped byte or a tag? */
-static int is_tag(int at) {
-    int in_unit = (at - 1) % 62, in_line = (at - 497) % 25;
-    if (at == 0) return 0;
-    if (at < 497) return in_unit == 0 || (in_unit >= 6 && in_unit < 30 && in_unit % 3 == 0);
-    return in_line < 24 && in_line % 3 == 0;
+/* A proposal is recorded and answered, between each two units: with an Acc, and with a Retry where Next is above it. */
+static void records(void) {
+    for (int q = 1; q <= 8; q++)
+        for (int p = 1; p <= 8; p++)
+            for (int i = 2; i <= 32; i += 5) {
+                uint8_t from = (uint8_t)q, at = (uint8_t)p;
+                start(8);
+                put(image, q, p, LOBSTERCREEL_PROPOSE, both(p, q), i);
+                put(image, q, p, LOBSTERCREEL_PROPOSE, both(p, q), i - i / 3);
+                *field(image, p, LOBSTERCREEL_VIEW) = both(p, q);
+                *field(image, p, LOBSTERCREEL_NEXT) = (uint8_t)i;
+                prepare();
+                take(wanted, q, p);
+                set(record(wanted, p, q), LOBSTERCREEL_PROPOSED, both(p, q), i);
+                done(lobstercreel_receive(image, length, from, at), "take, Propose", q, p, i);
+                prepare();
+                *record(wanted, p, q) = LOBSTERCREEL_NOTHING;
+                *field(wanted, p, LOBSTERCREEL_NEXT) = (uint8_t)(i + 1);
+                put(wanted, p, q, LOBSTERCREEL_ACC, i, 0);
+                done(lobstercreel_respond(image, length, at, from), "answer, Acc", p, q, i);
+                prepare();
+                take(wanted, q, p);
+                set(record(wanted, p, q), LOBSTERCREEL_PROPOSED, both(p, q), i - i / 3);
+                done(lobstercreel_receive(image, length, from, at), "take, Propose again", q, p, i);
+                prepare();
+                *record(wanted, p, q) = LOBSTERCREEL_NOTHING;
+                put(wanted, p, q, LOBSTERCREEL_RETRY, i - i / 3, i + 1);
+                done(lobstercreel_respond(image, length, at, from), "answer, Retry", p, q, i);
+            }
+}
+
+/* Marks and Commits; a Retry acted on. */
+static void proposals(void) {
+    for (int p = 1; p <= 8; p++)
+        for (int q = 1; q <= 8; q++) {
+            start(8);
+            *field(image, p, LOBSTERCREEL_PROPOUT) = 7;
+            *field(image, p, LOBSTERCREEL_PROPOSAL) = both(p, q);
+            *field(image, p, LOBSTERCREEL_ACKS) = (uint8_t)(all(8) & ~both(p, q));
+            put(image, q, p, LOBSTERCREEL_ACC, 7, 0);
+            put(image, p, p, LOBSTERCREEL_ACC, 7, 0);
+            if (p != q) {
+                prepare();
+                take(wanted, q, p);
+                *field(wanted, p, LOBSTERCREEL_ACKS) |= only(q);
+                done(lobstercreel_receive(image, length, (uint8_t)q, (uint8_t)p), "take, Acc", q, p, 0);
+            }
+            prepare();
+            take(wanted, p, p);
+            *field(wanted, p, LOBSTERCREEL_ACKS) = 0;
+            put(wanted, p, p, LOBSTERCREEL_COMMIT, both(p, q), 7);
+            if (p != q) put(wanted, p, q, LOBSTERCREEL_COMMIT, both(p, q), 7);
+            done(lobstercreel_receive(image, length, (uint8_t)p, (uint8_t)p), "take, last Acc", p, q, 0);
+            if (q < p) continue;
+            start(8);
+            *field(image, p, LOBSTERCREEL_VIEW) = both(p, q);
+            *field(image, p, LOBSTERCREEL_PROPOUT) = 7;
+            *field(image, p, LOBSTERCREEL_PROPOSAL) = only(p);
+            *field(image, p, LOBSTERCREEL_ACKS) = only(q);
+            put(image, q, p, LOBSTERCREEL_RETRY, 7, 9);
+            prepare();
+            take(wanted, q, p);
+            *field(wanted, p, LOBSTERCREEL_PROPOUT) = 9;
+            *field(wanted, p, LOBSTERCREEL_ACKS) = 0;
+            put(wanted, p, p, LOBSTERCREEL_PROPOSE, both(p, q), 9);
+            if (p != q) put(wanted, p, q, LOBSTERCREEL_PROPOSE, both(p, q), 9);
+            done(lobstercreel_receive(image, length, (uint8_t)q, (uint8_t)p), "take, Retry", q, p, 0);
+        }
+}
+
+/* Every unit stops: the lines towards it are emptied, all others keep what they have. */
+static void crashes(void) {
+    for (int p = 1; p <= 8; p++) {
+        start(8);
+        for (int q = 1; q <= 8; q++)
+            for (int r = 1; r <= 8; r++)
+                for (int k = 0; k <= (q + r) % 8; k++) put(image, q, r, LOBSTERCREEL_RETRY, 2 + q, 3 + q + r + k);
+        prepare();
+        *field(wanted, p, LOBSTERCREEL_CRASHED) = 1;
+        for (int q = 1; q <= 8; q++) *line_length(wanted, q, p) = 0;
+        done(lobstercreel_crash(image, length, (uint8_t)p), "stop", p, 0, 0);
+        prepare();
+        refused(lobstercreel_crash(image, length, (uint8_t)p), LOBSTERCREEL_STOPPED, "a second stop");
+    }
+}
+
+/* Each refusal by its name. */
+static void refusals(void) {
+    start(3);
+    prepare();
+    refused(lobstercreel_report(image, length, 4, 8), LOBSTERCREEL_STRANGER, "report by a stranger");
+    refused(lobstercreel_receive(image, length, 0, 1), LOBSTERCREEL_STRANGER, "take from a stranger");
+    refused(lobstercreel_receive(image, length, 1, 4), LOBSTERCREEL_STRANGER, "take by a stranger");
+    refused(lobstercreel_respond(image, length, 4, 1), LOBSTERCREEL_STRANGER, "answer by a stranger");
+    refused(lobstercreel_respond(image, length, 1, 255), LOBSTERCREEL_STRANGER, "answer to a stranger");
+    refused(lobstercreel_crash(image, length, 0), LOBSTERCREEL_STRANGER, "stop of a stranger");
+    refused(lobstercreel_report(image, length, 1, 8 + 1), LOBSTERCREEL_ODD_VIEW, "a view beyond n");
+    refused(lobstercreel_report(image, length, 1, 2), LOBSTERCREEL_ODD_VIEW, "a view without its own");
+    refused(lobstercreel_receive(image, length, 1, 2), LOBSTERCREEL_NOTHING_THERE, "an empty line");
+    refused(lobstercreel_respond(image, length, 1, 2), LOBSTERCREEL_NOTHING_THERE, "no record");
+    set(record(image, 1, 2), LOBSTERCREEL_PROPOSED, 3, 2);
+    prepare();
+    refused(lobstercreel_respond(image, length, 1, 2), LOBSTERCREEL_NOTHING_THERE, "a record of another view");
+    *field(image, 1, LOBSTERCREEL_PROPOUT) = 32;
+    *field(image, 1, LOBSTERCREEL_PROPOSAL) = 1;
+    put(image, 1, 1, LOBSTERCREEL_RETRY, 32, 33);
+    prepare();
+    refused(lobstercreel_report(image, length, 1, 7), LOBSTERCREEL_HISTORY_FULL, "a report past 32");
+    refused(lobstercreel_receive(image, length, 1, 1), LOBSTERCREEL_HISTORY_FULL, "a Retry past 32");
+    start(3);
+    for (int k = 0; k < 8; k++) put(image, 2, 3, LOBSTERCREEL_ACC, 2, 0);
+    prepare();
+    refused(lobstercreel_report(image, length, 2, 6), LOBSTERCREEL_LINE_FULL, "a full line");
+    start(3);
+    *field(image, 2, LOBSTERCREEL_CRASHED) = 1;
+    prepare();
+    refused(lobstercreel_report(image, length, 2, 6), LOBSTERCREEL_STOPPED, "report by a stopped unit");
+    refused(lobstercreel_receive(image, length, 1, 2), LOBSTERCREEL_STOPPED, "take by a stopped unit");
+    refused(lobstercreel_respond(image, length, 2, 1), LOBSTERCREEL_STOPPED, "answer by a stopped unit");
+    *field(image, 3, LOBSTERCREEL_NEXT) = 34;
+    prepare();
+    refused(lobstercreel_report(image, length, 1, 7), LOBSTERCREEL_UNSOUND, "a Next of 34");
+}
+
+/* Marks the bytes that mean something in an image. */
+static void mark(uint8_t *meant, uint8_t *of) {
+    int n = of[LOBSTERCREEL_N];
+    memset(meant, 0, length);
+    meant[LOBSTERCREEL_N] = 1;
+    for (int p = 1; p <= n; p++) {
+        memset(field(meant, p, 0), 1, LOBSTERCREEL_ACKS + 1);
+        for (int i = 1; i <= 32; i++) *entry(meant, p, i) = 1;
+        for (int q = 1; q <= n; q++) {
+            memset(record(meant, p, q), 1, *record(of, p, q) == LOBSTERCREEL_PROPOSED ? 3 : 1);
+            *line_length(meant, q, p) = 1;
+            for (int k = 0; k < *line_length(of, q, p); k++)
+                memset(slot(meant, q, p, k), 1, *slot(of, q, p, k) == LOBSTERCREEL_ACC ? 2 : 3);
+        }
+    }
+}
+
+/* With 255 in any byte that means something this table is not sound; any other byte may be 255. */
+static void damage_each(const char *what) {
+    static uint8_t good[LOBSTERCREEL_IMAGE], meant[LOBSTERCREEL_IMAGE];
+    memcpy(good, image, length);
+    mark(meant, good);
+    for (int at = 0; at < LOBSTERCREEL_IMAGE; at++) {
+        memcpy(image, good, length);
+        image[at] = 255;
+        prepare();
+        uint8_t answer = lobstercreel_report(image, length, 2, 3);
+        if (meant[at]) {
+            expect(answer == LOBSTERCREEL_UNSOUND && unchanged(), "%s, byte %d damaged: answer %d", what, at, answer);
+        } else {
+            *field(wanted, 2, LOBSTERCREEL_VIEW) = 3;
+            done(answer, "a byte that means nothing", at, 0, 0);
+        }
+    }
 }
 
 static void damage(void) {
-    for (int at = 0; at < LOBSTERCREEL_IMAGE; at++) {
-        lobstercreel_fresh(image, LOBSTERCREEL_IMAGE, 2);
-        image[at] = 200;
-        memcpy(before, image, LOBSTERCREEL_IMAGE);
-        uint8_t answer = lobstercreel_report(image, LOBSTERCREEL_IMAGE, 1, 3);
-        expect(!is_tag(at) || answer == 1, "a damaged image is refused");
-        expect(answer == 0 || unchanged(), "a refused call leaves the image");
+    start(7);
+    for (int p = 1; p <= 7; p++) {
+        *field(image, p, LOBSTERCREEL_PROPOUT) = 3;
+        *field(image, p, LOBSTERCREEL_PROPOSAL) = only(p);
+        for (int q = 1; q <= 7; q++) {
+            set(record(image, p, q), LOBSTERCREEL_PROPOSED, both(p, q), 9);
+            for (int k = 0; k < 8; k++) put(image, q, p, k % 2 ? LOBSTERCREEL_COMMIT : LOBSTERCREEL_PROPOSE, both(p, q), 10 + k);
+        }
     }
+    damage_each("a full table of seven");
+    start(3);
+    set(record(image, 2, 1), LOBSTERCREEL_PROPOSED, 3, 4);
+    put(image, 1, 2, LOBSTERCREEL_ACC, 2, 0);
+    put(image, 1, 2, LOBSTERCREEL_RETRY, 2, 3);
+    put(image, 3, 3, LOBSTERCREEL_ACC, 2, 0);
+    damage_each("a table of three, nearly empty");
+}
+
+/* What is no step in a list is refused with 8; a list is done as far as there are places; on what is no sound table each step is
+ * refused with 1. */
+static void lists(void) {
+    static const uint8_t odd[] = {LOBSTERCREEL_CRASH, 1, 0, 4, 1, 0, 255, 1, 0, LOBSTERCREEL_CRASH, 1, 9, LOBSTERCREEL_CRASH, 2};
+    static const uint8_t told[] = {LOBSTERCREEL_DONE, LOBSTERCREEL_BAD_LINE, LOBSTERCREEL_BAD_LINE, LOBSTERCREEL_STOPPED, LOBSTERCREEL_BAD_LINE};
+    static const uint8_t unsound[] = {LOBSTERCREEL_UNSOUND, LOBSTERCREEL_BAD_LINE, LOBSTERCREEL_BAD_LINE, LOBSTERCREEL_UNSOUND, LOBSTERCREEL_BAD_LINE};
+    for (size_t places = 0; places <= 8; places++) {
+        size_t count = places < sizeof told ? places : sizeof told;
+        start(2);
+        memset(numbers, MARK, sizeof numbers);
+        expect(lobstercreel_steps(image, length, odd, sizeof odd, numbers, places) == count, "a list with %zu places", places);
+        expect(memcmp(numbers, told, count) == 0 && numbers[count] == MARK, "the numbers of a list with %zu places", places);
+        expect(*field(image, 1, LOBSTERCREEL_CRASHED) == (places > 0) && *field(image, 2, LOBSTERCREEL_CRASHED) == 0, "what a list with %zu places stops", places);
+    }
+    start(2);
+    *field(image, 2, LOBSTERCREEL_NEXT) = 34;
+    prepare();
+    size_t count = lobstercreel_steps(image, length, odd, sizeof odd, numbers, sizeof told);
+    expect(count == sizeof told && memcmp(numbers, unsound, sizeof told) == 0 && unchanged(), "a list on a table that is not sound");
+    count = lobstercreel_steps(image, length - 1, odd, sizeof odd, numbers, sizeof told);
+    expect(count == sizeof told && memcmp(numbers, unsound, sizeof told) == 0 && unchanged(), "a list on an image of another length");
+}
+
+/* The longest output: 59,996 empty lines after `u 8`. No line of a sheet prints more bytes than 8, and it has 60,000 at most. */
+static void output_room(void) {
+    char *e = (char *)expected;
+    memset(sheet, '\n', sizeof sheet);
+    memcpy(sheet, "u 8", 3);
+    for (int i = 2; i <= 59997; i++) e += sprintf(e, "%d 8\n", i);
+    for (int p = 1; p <= 8; p++) e += sprintf(e, "unit %d live next 2 1=12345678\n", p);
+    size_t whole = (size_t)(e - (char *)expected);
+    memset(out, MARK, sizeof out);
+    size_t written = lobstercreel_run(sheet, sizeof sheet, out, LOBSTERCREEL_OUTPUT);
+    expect(written == whole && memcmp(out, expected, whole) == 0, "the longest output: %zu bytes of %zu", written, whole);
+    expect(written < LOBSTERCREEL_OUTPUT, "it is shorter than the room, and so it is whole");
+    expect(LOBSTERCREEL_OUTPUT >= 60000 * 8 + 8 * (23 + 32 * 12), "room for every line and for every unit with a full history");
+    for (size_t at = written; at < sizeof out; at++)
+        if (out[at] != MARK) expect(0, "byte %zu past the output is written", at);
 }
 
 static void run(unsigned seed) {
@@ -114,48 +429,75 @@ static void run(unsigned seed) {
     int n = 1 + rand() % 8, lines = rand() % 400;
     char *s = (char *)sheet, *e = (char *)expected;
     s += sprintf(s, "u %d\n", n);
-    lobstercreel_fresh(image, LOBSTERCREEL_IMAGE, (uint8_t)n);
+    start(n);
     for (int i = 2; i < lines + 2; i++) {
         uint8_t p = (uint8_t)(1 + rand() % n), q = (uint8_t)(1 + rand() % n), answer;
         uint8_t view = (uint8_t)(rand() % (1 << n) | (rand() % 2 ? 1 << (p - 1) : 1));
-        memcpy(before, image, LOBSTERCREEL_IMAGE);
+        prepare();
         int kind = rand() % 100;
+        uint8_t *step = list + LOBSTERCREEL_STEP * (i - 2);
         if (kind < 15) {
+            set(step, LOBSTERCREEL_REPORT, p, view);
             s += sprintf(s, "r %d %s\n", p, digits(view));
-            answer = lobstercreel_report(image, LOBSTERCREEL_IMAGE, p, view);
+            answer = lobstercreel_report(image, length, p, view);
         } else if (kind < 45) {
             s += sprintf(s, "a %d %d\n", p, q);
-            answer = lobstercreel_respond(image, LOBSTERCREEL_IMAGE, p, q);
+            set(step, LOBSTERCREEL_RESPOND, p, q);
+            answer = lobstercreel_respond(image, length, p, q);
         } else if (kind < 46) {
             s += sprintf(s, "s %d\n", p);
-            answer = lobstercreel_crash(image, LOBSTERCREEL_IMAGE, p);
+            set(step, LOBSTERCREEL_CRASH, p, q);
+            answer = lobstercreel_crash(image, length, p);
         } else {
             s += sprintf(s, "t %d %d\n", q, p);
-            answer = lobstercreel_receive(image, LOBSTERCREEL_IMAGE, q, p);
+            set(step, LOBSTERCREEL_RECEIVE, q, p);
+            answer = lobstercreel_receive(image, length, q, p);
         }
-        expect(answer == 0 || unchanged(), "a refused call leaves the image");
+        if (answer != 0) expect(unchanged(), "seed %u: a refused call leaves the image", seed);
+        answers[i - 2] = answer;
         e += sprintf(e, "%d %d\n", i, answer);
     }
+    memcpy(wanted, image, length);
+    start(n);
+    memset(numbers, MARK, sizeof numbers);
+    size_t listed = (size_t)lines * LOBSTERCREEL_STEP, places = (size_t)(rand() % 3 ? lines : lines / 2), more = (size_t)lines - places;
+    size_t first = lobstercreel_steps(image, length, list, listed, numbers, places);
+    expect(first == places && memcmp(numbers, answers, places) == 0 && numbers[places] == MARK, "seed %u: a list of steps answers as they do", seed);
+    size_t rest = lobstercreel_steps(image, length, list + LOBSTERCREEL_STEP * places, listed - LOBSTERCREEL_STEP * places, numbers, sizeof numbers);
+    expect(rest == more && memcmp(numbers, answers + places, more) == 0, "seed %u: and its rest too", seed);
+    expect(same_table(image, wanted), "seed %u: a list of steps leaves what they do", seed);
     for (int p = 1; p <= n; p++) {
-        const uint8_t *u = image + LOBSTERCREEL_UNIT(p);
-        e += sprintf(e, "unit %d %s next %d", p, u[LOBSTERCREEL_CRASHED] ? "stopped" : "live", u[LOBSTERCREEL_NEXT]);
+        const char *life = *field(image, p, LOBSTERCREEL_CRASHED) ? "stopped" : "live";
+        e += sprintf(e, "unit %d %s next %d", p, life, *field(image, p, LOBSTERCREEL_NEXT));
         for (int i = 1; i <= 32; i++)
-            if (u[LOBSTERCREEL_ENTRY(i)]) e += sprintf(e, " %d=%s", i, digits(u[LOBSTERCREEL_ENTRY(i)]));
+            if (*entry(image, p, i)) e += sprintf(e, " %d=%s", i, digits(*entry(image, p, i)));
         e += sprintf(e, "\n");
     }
-    size_t length = (size_t)(s - (char *)sheet), whole = (size_t)(e - (char *)expected), part = whole / 2;
-    expect(lobstercreel_run(sheet, length, out, sizeof out) == whole && memcmp(out, expected, whole) == 0, "the sheet prints what the calls answer");
+    size_t given = (size_t)(s - (char *)sheet), whole = (size_t)(e - (char *)expected), part = whole / 2;
+    expect(lobstercreel_run(sheet, given, out, LOBSTERCREEL_OUTPUT) == whole, "seed %u: the output is as long as the calls' answers", seed);
+    expect(memcmp(out, expected, whole) == 0, "seed %u: the sheet prints what the calls answer", seed);
     memset(out, 9, whole);
-    expect(lobstercreel_run(sheet, length, out, part) == part && memcmp(out, expected, part) == 0, "a small buffer takes the beginning");
-    expect(out[part] == 9, "and nothing past it is written");
+    expect(lobstercreel_run(sheet, given, out, part) == part && memcmp(out, expected, part) == 0, "seed %u: a small buffer takes the beginning", seed);
+    expect(out[part] == 9, "seed %u: and nothing past it is written", seed);
 }
 
 int main(void) {
+    memset(memory, MARK, sizeof memory);
+    places();
+    lengths();
     fresh();
-    layout();
-    retry();
+    reports();
+    commits();
+    records();
+    proposals();
+    crashes();
+    refusals();
     damage();
+    lists();
+    output_room();
     for (unsigned seed = 1; seed <= SEEDS; seed++) run(seed);
-    printf("tests/image.c: seeds 1 to %d, %d checks hold, %d do not\n", SEEDS, passed, failed);
+    for (int i = 0; i < GUARD; i++)
+        expect(memory[i] == MARK && memory[GUARD + LOBSTERCREEL_IMAGE + i] == MARK, "byte %d around the image", i);
+    printf("tests/image.c: seeds 1 to %d, %ld checks hold, %ld do not\n", SEEDS, passed, failed);
     return failed != 0;
 }

@@ -1,4 +1,4 @@
-//! The proved library in safe Rust. A [`System`] is the image that the library works on; every call
+//! The proved library in safe Rust. A [`System`] is the image that the library works on; every step
 //! answers `Ok`, or a refusal and leaves the image as it was.
 
 /// The length of an image (docs/IMAGE.md).
@@ -14,10 +14,18 @@ extern "C" {
     fn lobstercreel_receive(image: *mut u8, length: usize, q: u8, p: u8) -> u8;
     fn lobstercreel_respond(image: *mut u8, length: usize, p: u8, q: u8) -> u8;
     fn lobstercreel_crash(image: *mut u8, length: usize, p: u8) -> u8;
+    fn lobstercreel_steps(
+        image: *mut u8,
+        length: usize,
+        list: *const u8,
+        list_length: usize,
+        numbers: *mut u8,
+        places: usize,
+    ) -> usize;
     fn lobstercreel_run(sheet: *const u8, length: usize, out: *mut u8, room: usize) -> usize;
 }
 
-/// A number of the refusal table, 1 to 7.
+/// A number of the refusal table: 1 to 7.
 #[derive(Clone, Copy, Debug, PartialEq, Eq)]
 pub struct Refusal(pub u8);
 
@@ -53,7 +61,43 @@ pub fn step(image: &mut [u8], step: Step) -> Answer {
     })
 }
 
-/// Writes the image of the fresh system of n processes; for a wrong n, refusal 2 and that of none.
+impl Step {
+    /// The step as it stands in a list.
+    pub fn bytes(self) -> [u8; 3] {
+        match self {
+            Step::Report { p, view } => [0, p, view],
+            Step::Receive { q, p } => [1, q, p],
+            Step::Respond { p, q } => [2, p, q],
+            Step::Crash { p } => [3, p, 0],
+        }
+    }
+}
+
+/// Does a list of steps, each refused or not, as [`step`] would do one after the other.
+pub fn steps(image: &mut [u8], list: &[Step]) -> Vec<Answer> {
+    let bytes: Vec<u8> = list.iter().flat_map(|step| step.bytes()).collect();
+    let mut numbers = vec![0; list.len()];
+    let done = steps_into(image, &bytes, &mut numbers);
+    numbers[..done].iter().map(|&number| answer(number)).collect()
+}
+
+/// The same, of a list in bytes, its numbers into a buffer: as many steps are done as that has places.
+pub fn steps_into(image: &mut [u8], list: &[u8], numbers: &mut [u8]) -> usize {
+    // SAFETY: three slices, two of them lent alone, so they do not overlap.
+    unsafe {
+        lobstercreel_steps(
+            image.as_mut_ptr(),
+            image.len(),
+            list.as_ptr(),
+            list.len(),
+            numbers.as_mut_ptr(),
+            numbers.len(),
+        )
+    }
+}
+
+/// Writes the image of the fresh system of n processes. For a wrong n it gives refusal 2 and writes
+/// that of none; for a slice that has not the length of an image, refusal 1 and nothing is written.
 pub fn fresh(image: &mut [u8], n: u8) -> Answer {
     // SAFETY: as in `step`.
     answer(unsafe { lobstercreel_fresh(image.as_mut_ptr(), image.len(), n) })
@@ -98,9 +142,14 @@ impl System {
         step(&mut self.image, o)
     }
 
-    /// The entry of process p at position i, if it is written.
+    pub fn perform_all(&mut self, list: &[Step]) -> Vec<Answer> {
+        steps(&mut self.image, list)
+    }
+
+    /// The entry of process p, 1 to n, at position i, if it is written.
     pub fn entry(&self, p: u8, i: u8) -> Option<u8> {
-        let there = (1..=8).contains(&p) && (1..=32).contains(&i);
+        let n = self.image[0].min(8);
+        let there = (1..=n).contains(&p) && (1..=32).contains(&i);
         let at = || 1 + 62 * (usize::from(p) - 1) + 29 + usize::from(i);
         there.then(|| self.image[at()]).filter(|&view| view != 0)
     }

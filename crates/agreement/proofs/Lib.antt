@@ -1,15 +1,10 @@
+-- Demand 3: what is so of every system that steps reach, that each transition keeps it, and the book that it leaves.
 pub mod Acceptances
-pub mod Beginning
-pub mod Feed
-pub mod Frames
 pub mod Invariant
-pub mod Messages
-pub mod Outcomes
-pub mod Pages
-pub mod Plans
-pub mod Reachable
-pub mod SoundPlans
-pub mod SoundSteps
-pub mod Soundness
+pub mod Changes
 pub mod Steps
+pub mod Beginning
+pub mod Reachable
+pub mod Pages
+pub mod Feed
 pub mod Theorem

@@ -1,119 +1,97 @@
 -- What a made agreement writes in the book: its view, at its index, for its recipients; nothing else changes.
 use Prim.Native.Nat.{ℕ, zero, suc, _≤_}
-use mathlib.Core.Path.{_≡_, refl, sym, _∙_, ap, subst}
+use mathlib.Core.Path.{_≡_, refl, sym, _∙_, subst}
 use mathlib.Core.Bool.{true}
 use mathlib.Core.List.{List}
-use mathlib.Core.Logic.{_⊎_, inl, inr, ⊎-elim}
 use native.Mathlib.Omega.{arith}
 use lib.ListN.{length}
 use Rattle.view.specs.Logic.{eachUpTo, at, put}
 use Rattle.view.specs.View.{has}
-use Rattle.view.proofs.Laws.{at-put-same, at-put-other, length-put, true-is-not-false, by-number, by-pick, each-keeps}
+use Rattle.view.proofs.Laws.{at-put-same, at-put-other, length-put, each-put, true-is-not-false, by-number, by-pick, each-keeps}
+use Rattle.view.proofs.Sets.{has-number}
 use Rattle.system.specs.declared.History.{History}
 use Rattle.system.specs.Process.{entryAt, withEntry, noEntries}
 use Rattle.agreement.specs.Book.{Agreement, writtenIn}
-use Rattle.agreement.proofs.Frames.{Numbered}
-use Rattle.agreement.proofs.Plans.{each-entry}
 
 -- eight histories of thirty-two entries
 pub record Long (hs : List History) : Type 0 where
   pub histories : length hs ≡ 8
   pub entries : (p : ℕ) → length (at hs p noEntries .entries) ≡ 32
 
--- of each history: of the new one, and of each other
-each-history : (hs : List History) (p : ℕ) (h : History) → Numbered p → length hs ≡ 8 → (P : ℕ → History → Type 0) → P p h
-    → ((k : ℕ) → (k ≡ p → ⊥) → P k (at hs k noEntries))
-    → (k : ℕ)
-    → P k (at (put hs p h) k noEntries)
-each-history hs p h number long P here there k =
-    by-number k p
-    (λ e. subst (λ (j : ℕ). P j (at (put hs p h) j noEntries)) (sym e) (subst (P p) (sym (at-put-same hs p h noEntries (number .low) (omega (arith, number .high)))) here))
-    (λ f. subst (P k) (sym (at-put-other hs p k h noEntries f)) (there k f))
-
-entries-long : (h : History) (i v : ℕ) → length (h .entries) ≡ 32 → length (withEntry h i v .entries) ≡ 32
-unfolding withEntry
-entries-long h i v e = length-put (h .entries) i v ∙ e
+-- of each element once a is put in at k: of a, and of each other
+each-put-but : {A : Type 0} (P : ℕ → A → Type 0) (l : List A) (k : ℕ) (a d : A) → 1 ≤ k → k ≤ length l → P k a
+    → ((j : ℕ) → (j ≡ k → ⊥) → P j (at l j d))
+    → (j : ℕ)
+    → P j (at (put l k a) j d)
+each-put-but P l k a d low high new old j =
+    by-number j k
+    (λ e. subst (λ (i : ℕ). P i (at (put l k a) i d)) (sym e) (subst (P k) (sym (at-put-same l k a d low high)) new))
+    (λ h. subst (P j) (sym (at-put-other l k j a d h)) (old j h))
 
 module _ (g : Agreement) where
   abbrev page : List History → ℕ → History
   page hs k = withEntry (at hs k noEntries) (g .index) (g .view)
 
   long-written : (k : ℕ) → 1 ≤ k → k ≤ 8 → (hs : List History) → Long hs → Long (writtenIn g k hs)
-  unfolding writtenIn
+  unfolding writtenIn withEntry
   long-written k l u hs long =
-      by-pick Long (has (g .recipients) k) (put hs k (page hs k)) hs
+      by-pick Long _ _ _
       (λ named.
       record {
         histories = length-put hs k _ ∙ long .histories;
-        entries = each-history hs k (page hs k) (record { low = l; high = u }) (long .histories) (λ j h. length (h .entries) ≡ 32)
-            (entries-long (at hs k noEntries) (g .index) (g .view) (long .entries k))
-            (λ j f. long .entries j);
+        entries = each-put (λ j (h : History). length (h .entries) ≡ 32) hs k (page hs k) noEntries
+            (λ a b. length-put (at hs k noEntries .entries) (g .index) (g .view) ∙ long .entries k)
+            (long .entries);
       })
       (λ un. long)
 
   pub made-long : (hs : List History) → Long hs → Long (eachUpTo 8 (writtenIn g) hs)
   made-long hs long = each-keeps Long 8 (writtenIn g) long-written hs long
 
-  module _ (inside : 1 ≤ g .index) (within : g .index ≤ 32) where
-    -- what is not written stays
-    pub other-entry : (hs : List History) → Long hs → (w j : ℕ) → (has (g .recipients) w ≡ true → j ≡ g .index → ⊥)
-        → entryAt (at (eachUpTo 8 (writtenIn g) hs) w noEntries) j ≡ entryAt (at hs w noEntries) j
-    unfolding writtenIn
-    other-entry hs long w j apart =
-        each-keeps (λ ks. Long ks × (entryAt (at ks w noEntries) j ≡ entryAt (at hs w noEntries) j)) 8 (writtenIn g)
-        (λ k l u ks h. (
-          long-written k l u ks (h .0),
-          by-pick (λ (xs : List History). entryAt (at xs w noEntries) j ≡ entryAt (at hs w noEntries) j) (has (g .recipients) k) _ ks
-              (λ named.
-              each-history ks k (page ks k) (record { low = l; high = u }) (h .0 .histories)
-              (λ z x. z ≡ w → entryAt x j ≡ entryAt (at hs w noEntries) j)
-              (λ e.
-              each-entry (at ks k noEntries) (g .index) (g .view) inside within (h .0 .entries k)
-              (λ i v. i ≡ j → v ≡ entryAt (at hs w noEntries) j)
-              (λ f. absurd (apart (subst (λ (z : ℕ). has (g .recipients) z ≡ true) e named) (sym f)))
-              (λ i f q. subst (λ (z : ℕ). entryAt (at ks z noEntries) i ≡ entryAt (at hs w noEntries) j) (sym e) (ap (entryAt (at ks w noEntries)) q ∙ h .1))
-              j
-              refl)
-              (λ z f e. subst (λ (y : ℕ). entryAt (at ks y noEntries) j ≡ entryAt (at hs w noEntries) j) (sym e) (h .1))
-              w
-              refl)
-              (λ un. h .1),
-        ))
-        hs
-        (long, refl) .1
-
-    turn : (ks : List History) → Long ks → (w : ℕ) → has (g .recipients) w ≡ true → (k : ℕ) → suc k ≤ 8
-        → (w ≤ k → entryAt (at ks w noEntries) (g .index) ≡ g .view)
-        → (w ≤ k) ⊎ (w ≡ suc k)
-        → entryAt (at (writtenIn g (suc k) ks) w noEntries) (g .index) ≡ g .view
-    unfolding writtenIn
-    turn ks long w named k u before place =
-        by-pick (λ (xs : List History). entryAt (at xs w noEntries) (g .index) ≡ g .view) (has (g .recipients) (suc k)) _ ks
-        (λ also.
-        each-history ks (suc k) (page ks (suc k)) (record { low = omega arith; high = u }) (long .histories)
-        (λ z x. z ≡ w → entryAt x (g .index) ≡ g .view)
+  module _ (low : 1 ≤ g .index) (high : g .index ≤ 32) (w j : ℕ) (P : ℕ → Type 0) where
+    -- the entry of w at j after the turn of process k
+    turn-entry : (hs : List History) → Long hs → (k : ℕ) → 1 ≤ k → k ≤ 8 → (has (g .recipients) k ≡ true → w ≡ k → j ≡ g .index → P (g .view))
+        → ((has (g .recipients) k ≡ true → w ≡ k → j ≡ g .index → ⊥) → P (entryAt (at hs w noEntries) j))
+        → P (entryAt (at (writtenIn g k hs) w noEntries) j)
+    unfolding writtenIn entryAt withEntry
+    turn-entry hs long k l u here there =
+        by-pick (λ (xs : List History). P (at (at xs w noEntries .entries) j 0)) (has (g .recipients) k) _ hs
+        (λ named.
+        each-put-but (λ z (x : History). w ≡ z → P (at (x .entries) j 0)) hs k (page hs k) noEntries l (omega (arith, long .histories))
         (λ e.
-        each-entry (at ks (suc k) noEntries) (g .index) (g .view) inside within (long .entries (suc k))
-        (λ i v. i ≡ g .index → v ≡ g .view)
-        (λ q. refl)
-        (λ i f q. absurd (f q))
-        (g .index)
+        each-put-but (λ i v. j ≡ i → P v) (at hs k noEntries .entries) (g .index) (g .view) 0 low (omega (arith, long .entries k))
+        (here named e)
+        (λ i f q.
+        subst (λ (z : ℕ). P (at (at hs z noEntries .entries) i 0)) e
+        (subst (λ (z : ℕ). P (at (at hs w noEntries .entries) z 0)) q (there (λ h a b. f (sym q ∙ b)))))
+        j
         refl)
-        (λ z f e. subst (λ (y : ℕ). entryAt (at ks y noEntries) (g .index) ≡ g .view) (sym e) (before (⊎-elim (λ b. b) (λ same. absurd (f (e ∙ same))) place)))
+        (λ z f e. subst (λ (y : ℕ). P (at (at hs y noEntries .entries) j 0)) e (there (λ h a b. f (sym e ∙ a))))
         w
         refl)
-        (λ un. before (⊎-elim (λ b. b) (λ same. true-is-not-false (sym named ∙ ap (has (g .recipients)) same ∙ un)) place))
+        (λ un. there (λ h a b. true-is-not-false (sym h ∙ un)))
 
-    written-upto : (hs : List History) → Long hs → (w : ℕ) → has (g .recipients) w ≡ true → (k : ℕ) → 1 ≤ w → w ≤ k → k ≤ 8
-        → entryAt (at (eachUpTo k (writtenIn g) hs) w noEntries) (g .index) ≡ g .view
+    turns-entry : (hs : List History) → Long hs → (k : ℕ) → k ≤ 8 → (has (g .recipients) w ≡ true → w ≤ k → j ≡ g .index → P (g .view))
+        → ((has (g .recipients) w ≡ true → w ≤ k → j ≡ g .index → ⊥) → P (entryAt (at hs w noEntries) j))
+        → P (entryAt (at (eachUpTo k (writtenIn g) hs) w noEntries) j)
     unfolding eachUpTo
-    written-upto hs long w named zero l u h = absurd (omega arith)
-    written-upto hs long w named (suc k) l u h =
-        turn (eachUpTo k (writtenIn g) hs) (each-keeps Long k (writtenIn g) (λ j a b. long-written j a (omega arith)) hs long) w named k (omega arith)
-        (λ below. written-upto hs long w named k l below (omega arith))
-        (by-number w (suc k) inr (λ f. inl (omega arith)))
+    turns-entry hs long zero h new old = old (λ n l q. absurd (omega (arith, has-number (g .recipients) w n)))
+    turns-entry hs long (suc k) h new old =
+        turn-entry (eachUpTo k (writtenIn g) hs) (each-keeps Long k (writtenIn g) (λ i a b. long-written i a (omega arith)) hs long) (suc k) (omega arith) h
+        (λ n e q. new (subst (λ (z : ℕ). has (g .recipients) z ≡ true) (sym e) n) (omega arith) q)
+        (λ other.
+        turns-entry hs long k (omega arith)
+        (λ n l q. new n (omega arith) q)
+        (λ before.
+        old
+        (λ n l q.
+        by-number w (suc k)
+        (λ e. other (subst (λ (z : ℕ). has (g .recipients) z ≡ true) e n) e q)
+        (λ f. before n (omega arith) q))))
 
-    -- a writer gets the view
-    pub written-entry : (hs : List History) → Long hs → (w : ℕ) → Numbered w → has (g .recipients) w ≡ true
-        → entryAt (at (eachUpTo 8 (writtenIn g) hs) w noEntries) (g .index) ≡ g .view
-    written-entry hs long w number named = written-upto hs long w named 8 (number .low) (number .high) (omega arith)
+    -- the entry of w at j in the book: the view, if w is a recipient and j the index, or as before
+    pub made-entry : (hs : List History) → Long hs → (has (g .recipients) w ≡ true → j ≡ g .index → P (g .view))
+        → ((has (g .recipients) w ≡ true → j ≡ g .index → ⊥) → P (entryAt (at hs w noEntries) j))
+        → P (entryAt (at (eachUpTo 8 (writtenIn g) hs) w noEntries) j)
+    made-entry hs long new old =
+        turns-entry hs long 8 (omega arith) (λ n l q. new n q) (λ f. old (λ n q. f n (has-number (g .recipients) w n .1) q))

@@ -1,190 +1,221 @@
--- Each step, done or refused, keeps what is so of every system that steps reach.
-use Prim.Native.Nat.{ℕ, _≤_}
-use mathlib.Core.Path.{_≡_, refl, sym, _∙_, ap, subst}
-use mathlib.Core.Bool.{Bool, true, false, _&&_}
+-- Each transition, and so each step and each list of steps, keeps what is so of every system that steps reach.
+use Prim.Native.Nat.{ℕ, _≤_, _<_, _+_}
+use mathlib.Core.Path.{_≡_, refl, sym, _∙_, subst}
+use mathlib.Core.Bool.{Bool, true, false}
 use mathlib.Core.List.{List, [], _∷_, _++_, append-nil, append-assoc}
+use mathlib.Core.Logic.{⊎-elim}
 use native.Mathlib.Omega.{arith}
-use borrow.Author.Tests.{eqb-true}
+use borrow.Author.Tests.{ne-eqb, lt-ltb, le-ltb}
 use lib.Dec.{eqb}
-use Rattle.view.specs.Logic.{pick, isOneOf}
-use Rattle.view.proofs.Laws.{and-left, and-right, one-of, by-pick, each-as}
-use Rattle.channel.specs.Channel.{waiting, front}
-use Rattle.system.specs.declared.Process.{Process}
+use Rattle.view.specs.declared.ProcessId.{ProcessId}
+use Rattle.view.specs.declared.GroupIndex.{GroupIndex}
+use Rattle.view.specs.Logic.{pick}
+use Rattle.view.specs.View.{has, leastOf}
+use Rattle.view.proofs.Laws.{Each, by-test}
+use Rattle.view.proofs.Sets.{has-none, not-empty, has-with, has-only, subset-has}
+use Rattle.channel.specs.declared.Message.{Message}
+use Rattle.system.specs.declared.Pending.{Pending}
+use Rattle.system.specs.declared.Pending.the-variants.{Nothing, Proposal}
+use Rattle.system.specs.declared.Variables.{Variables}
 use Rattle.system.specs.declared.System.{System}
 use Rattle.system.specs.declared.Outcome.{Outcome}
 use Rattle.system.specs.Process.{pendingAt}
-use Rattle.system.specs.System.{processAt, withProcess, channelAt, broadcasted, roomFor, done, refused}
+use Rattle.system.specs.System.{processAt, variablesAt, refused}
 use Rattle.sound.specs.Sound.{soundSystem}
-use Rattle.plan.specs.declared.Plan.{Plan}
-use Rattle.step.specs.declared.Step.{Step}
-use Rattle.step.specs.declared.Step.the-variants.{Report, Receive, Respond, Crash}
-use Rattle.plan.specs.Fields.{asCrashed}
-use Rattle.plan.specs.Plan.{receivePlan, respondPlan}
-use Rattle.step.specs.Step.{permitted, carriedOut, takenOff, stopped, attempted, stepped, ran}
-use Rattle.agreement.specs.Accepted.{Acceptance, acceptedFrom, acceptedBy, acceptedIn}
-use Rattle.agreement.proofs.Frames.{Numbered}
-use Rattle.agreement.proofs.Messages.{Kept, broadcast-processes, kept-start, kept-taken, kept-emptied}
-use Rattle.agreement.proofs.Invariant.{Honest, Reached, Since, since-same, since-then, since-change, reached-kept, reached-broadcast, reached-change, honest-later, Later, later-same}
-use Rattle.agreement.proofs.Plans.{Planned, change-crashed, report-planned, front-planned, respond-planned}
-use Rattle.agreement.proofs.Soundness.{Sound, sound-facts}
+use Rattle.plan.specs.declared.Step.{Step}
+use Rattle.plan.specs.declared.Step.the-variants.{Report, Receive, Respond, Crash}
+use Rattle.plan.specs.Fields.{withNext}
+use Rattle.plan.specs.Plan.{assigning, recording}
+use Rattle.step.specs.Step.{stepped, ran}
+use Rattle.step.proofs.Cases.{Taken, afterwards, Marking, present, stale, Transition, proposes, follows, records, reproposes, ignores, marks, commits, enters, accepts, declines, crashes}
+use Rattle.step.proofs.Effects.{all-left, taken-left}
+use Rattle.step.proofs.Inversion.{by-outcome}
+use Rattle.step.proofs.Outcomes.{unsound-is-1}
+use Rattle.agreement.specs.Accepted.{Acceptance, accepted, acceptedFrom, acceptedBy, acceptedIn}
+use Rattle.agreement.proofs.Acceptances.{Same, still, newest, last-or-before}
+use Rattle.agreement.proofs.Invariant.{Proposed, Answered, Honest, Recorded, Own, Reached, Later, later-equal, later-risen, answered-later}
+use Rattle.agreement.proofs.Changes.{Accepting, accepting-none, HonestChange, recording-honest, since-same, since-then, at-actor, later-all, After, effect-after, quiet-after}
 
--- an outcome on s with what has been accepted then: more, only if the step was done
-record After (s : System) (old new : List Acceptance) (o : Outcome) : Type 0 where
-  reached : Reached (o .system) (pick (eqb (o .refusal) 0) new old)
-  since : Since s (o .system)
+-- what a step accepts where it is done
+abbrev pub acceptances : System → Step → List Acceptance
+acceptances s (Report p v) = []
+acceptances s (Receive q p) = []
+acceptances s (Respond p q) = acceptedFrom (p .0) (variablesAt s (p .0)) (pendingAt (processAt s (p .0)) (q .0))
+acceptances s (Crash p) = []
 
--- the step is refused
-unchanged : (s : System) (old new : List Acceptance) (k : ℕ) → eqb k 0 ≡ false → Reached s old → After s old new (refused k s)
-unfolding pick
-unchanged s old new k e r = record { reached = rw e r; since = since-same s s (λ j. refl) }
+accepts-this : (p : ℕ) (x : Variables) (y : Pending) (v : ℕ) (i : GroupIndex) → y ≡ Proposal v i → x .next .0 ≤ i .0
+    → acceptedFrom p x y ≡ record { process = p; view = v; index = i .0 } ∷ []
+unfolding acceptedFrom pick
+accepts-this p x y v i e free = rw (e, le-ltb (i .0) (x .next .0) free)
 
-numbered : (n p : ℕ) → n ≤ 8 → isOneOf n p ≡ true → Numbered p
-numbered n p h e = record { low = one-of n p e .0; high = omega (arith, one-of n p e) }
+accepts-none : (p : ℕ) (x : Variables) (y : Pending) (v : ℕ) (i : GroupIndex) → y ≡ Proposal v i → i .0 < x .next .0 → acceptedFrom p x y ≡ []
+unfolding acceptedFrom pick
+accepts-none p x y v i e late = rw (e, lt-ltb (i .0) (x .next .0) late)
 
-carried : (s t : System) (p : ℕ) (old new : List Acceptance) (a : Plan) → Reached s old → Reached t old → Since s t → Numbered p → Planned t p old new a
-    → After s old new (carriedOut s t p a)
-unfolding carriedOut pick
-carried s t p old new a before taken same number plan =
-    by-pick (After s old new) (eqb (a .refusal) 0) _ _
-    (λ go.
-    let zero = eqb-true (a .refusal) 0 go in
-    let u = withProcess t p (a .process) in
-    by-pick (After s old new) (roomFor t p (a .addressees)) _ _
-    (λ room.
-    record {
-      reached = reached-broadcast u new p (a .addressees) (a .message) number (plan .honest zero) (reached-change t p (a .process) old new taken (plan .change zero));
-      since = since-then s u (broadcasted u p (a .addressees) (a .message))
-          (since-then s t u same (since-change t p (a .process) old new taken (plan .change zero)))
-          (since-same u (broadcasted u p (a .addressees) (a .message)) (broadcast-processes u p (a .addressees) (a .message)));
-    })
-    (λ full. unchanged s old new 7 refl before))
-    (λ no-go. unchanged s old new (a .refusal) no-go before)
+-- ---- the acting process accepts a proposal that it has recorded
+module _ {s : System} {acc : List Acceptance} (r : Reached s acc) (p v i : ℕ) (own : has v p ≡ true) (free : variablesAt s p .next .0 ≤ i) where
+  abbrev this : Acceptance
+  this = record { process = p; view = v; index = i }
 
-permitting : (s : System) (p q : ℕ) (old new : List Acceptance) (o : Outcome) → Reached s old
-    → (isOneOf (s .n) p ≡ true → isOneOf (s .n) q ≡ true → After s old new o)
-    → After s old new (permitted s p q o)
-unfolding permitted
-permitting s p q old new o before then =
-    by-pick (After s old new) (isOneOf (s .n) p && isOneOf (s .n) q) _ _
-    (λ known.
-    by-pick (After s old new) (processAt s p .crashed) _ _
-    (λ crashed. unchanged s old new 3 refl before)
-    (λ live. then (and-left (isOneOf (s .n) p) (isOneOf (s .n) q) known) (and-right (isOneOf (s .n) p) (isOneOf (s .n) q) known)))
-    (λ stranger. unchanged s old new 2 refl before)
+  -- nothing was accepted there
+  clash : (u w j : ℕ) → accepted acc u w j ≡ true → {z : ℕ} → Same this u z j → ⊥
+  clash u w j a e = omega (arith, subst (λ (k : ℕ). j < variablesAt s k .next .0) (e .process) (r .passed u w j a), e .index, free)
 
-module _ (s : System) (acc : List Acceptance) (r : Reached s acc) (sound : Sound s) where
-  honest-start : Kept (Honest acc (processAt s)) s s
-  honest-start = kept-start (Honest acc (processAt s)) s (r .shape) (r .messages)
-
-  -- the message comes off, and is handled
-  taking : (q p : ℕ) → isOneOf (s .n) q ≡ true → isOneOf (s .n) p ≡ true
-      → After s acc acc (carriedOut s (takenOff s q p) p (receivePlan q p (processAt s p) (front (channelAt s q p))))
-  taking q p known-q known-p =
-      let from = numbered (s .n) q (sound .high) known-q in
-      let to = numbered (s .n) p (sound .high) known-p in
-      let line = sound .channel q p (from .low) (one-of (s .n) q known-q .1) (to .low) (one-of (s .n) p known-p .1) in
-      let t = takenOff s q p in
-      let k = kept-taken (Honest acc (processAt s)) s s q p from to (line .short) honest-start in
-      let rt = reached-kept s t acc r k in
-      carried s t p acc acc _ r rt (since-same s t (k .processes)) to
-      (subst (λ (x : Process). Planned t p acc acc (receivePlan q p x (front (channelAt s q p)))) (k .processes p)
-      (front-planned t acc rt p to (s .n) q (waiting (channelAt s q p)) from (line .messages)
-      (each-as (Honest acc (processAt s) q p) (Honest acc (processAt t) q p)
-      (honest-later acc acc (processAt s) (processAt t) (λ u v i a. a) (λ j. subst (Later (processAt s j)) (sym (k .processes j)) (later-same (processAt s j))) q p)
-      (waiting (channelAt s q p))
-      (r .messages q p))))
-
-  stopping : (p : ℕ) → isOneOf (s .n) p ≡ true → After s acc acc (done (stopped s p))
-  unfolding stopped pick
-  stopping p known =
-      let number = numbered (s .n) p (sound .high) known in
-      let t = withProcess s p (asCrashed (processAt s p)) in
-      let change = change-crashed s acc r p number in
-      let rt = reached-change s p (asCrashed (processAt s p)) acc acc r change in
-      let k = kept-emptied (Honest acc (processAt t)) t t p number (kept-start (Honest acc (processAt t)) t (rt .shape) (rt .messages)) in
+  accepting-this : Accepting p (i + 1) acc (acc ++ (this ∷ []))
+  accepting-this =
       record {
-        reached = reached-kept t _ acc rt k;
-        since = since-then s t _ (since-change s p (asCrashed (processAt s p)) acc acc r change) (since-same t _ (k .processes));
+        grown = record { still = still acc (this ∷ []) };
+        others = λ u w j h a. ⊎-elim (λ b. b) (λ e. absurd (h (e .process))) (last-or-before acc this u w j a);
+        passed = λ w j a. ⊎-elim (λ b. omega (arith, r .passed p w j b, free)) (λ e. omega (arith, e .index)) (last-or-before acc this p w j a);
+        member = λ u w j a. ⊎-elim (λ b. r .member u w j b) (λ e. rw (e .view, e .process) own) (last-or-before acc this u w j a);
+        one-view = λ u w z j a b.
+            ⊎-elim
+            (λ c. ⊎-elim (λ d. r .one-view u w z j c d) (λ e. absurd (clash u w j c e)) (last-or-before acc this u z j b))
+            (λ f. ⊎-elim (λ d. absurd (clash u z j d f)) (λ e. f .view ∙ sym (e .view)) (last-or-before acc this u z j b))
+            (last-or-before acc this u w j a);
       }
 
-  answering : (p q : ℕ) → isOneOf (s .n) p ≡ true → isOneOf (s .n) q ≡ true
-      → After s acc (acc ++ acceptedFrom p (processAt s p) (pendingAt (processAt s p) q)) (carriedOut s s p (respondPlan q (processAt s p)))
-  unfolding respondPlan
-  answering p q known-p known-q =
-      let number = numbered (s .n) p (sound .high) known-p in
-      let to = numbered (s .n) q (sound .high) known-q in
-      carried s s p acc _ _ r r (since-same s s (λ j. refl)) number
-      (respond-planned s acc r p number (s .n) q (pendingAt (processAt s p) q) to
-      (sound .process p (number .low) (one-of (s .n) p known-p .1) .recorded q (to .low) (one-of (s .n) q known-q .1))
-      (r .recorded p q))
+  accepting-honest : (q : ProcessId) → HonestChange s acc (acc ++ (this ∷ [])) p (recording (withNext (variablesAt s p) (i + 1)) q Nothing)
+  accepting-honest q =
+      recording-honest q Nothing accepting-this (later-equal _ _ refl refl)
+      (record { marks = λ u some named. still acc (this ∷ []) u _ _ (r .own p .marks u some named); leads = r .own p .leads })
+      tt
 
--- what a step accepts, if it is done
-abbrev accepts : System → Step → List Acceptance
-accepts s (Report p v) = []
-accepts s (Receive q p) = []
-accepts s (Respond p q) = acceptedFrom (p .0) (processAt s (p .0)) (pendingAt (processAt s (p .0)) (q .0))
-accepts s (Crash p) = []
+  -- so the Acc to a process whose variables are x is honest, if the proposal was
+  answered-this : {x : Variables} → Proposed x v i → Answered (acc ++ (this ∷ [])) p x i
+  answered-this {x} proposed =
+      record {
+        bound = proposed .bound;
+        same = λ e h. subst (λ (w : ℕ). accepted (acc ++ (this ∷ [])) p w i ≡ true) (proposed .same e h) (newest acc p v i);
+      }
 
-same-accepted : (acc : List Acceptance) (s : System) (o : Step) (t : Bool) → pick t (acc ++ accepts s o) acc ≡ acc ++ pick t (accepts s o) []
+-- ---- what each transition may rely on
+module _ {s : System} {acc : List Acceptance} (r : Reached s acc) where
+  -- the message taken was honest
+  honest-first : {q p : ℕ} {m : Message} {left : ℕ → ℕ → List Message} → Taken s q p m left → Honest acc (variablesAt s) q p m
+  honest-first {q} {p} k = subst (Each (Honest acc (variablesAt s) q p)) (k .first) (r .messages q p) .0
+
+  -- whoever is marked once an Acc of q is taken has accepted v* at PropOut
+  marked-accepted : (p : ℕ) {q i acks : ℕ} → 1 ≤ q → q ≤ 8 → Answered acc q (variablesAt s p) i → Marking (variablesAt s p) q i acks → (u : ℕ)
+      → (variablesAt s p .proposal ≡ 0 → ⊥)
+      → has acks u ≡ true
+      → accepted acc u (variablesAt s p .proposal) (variablesAt s p .propout .0) ≡ true
+  marked-accepted p {q} l h answered (present e a) u some named =
+      ⊎-elim (r .own p .marks u some) (λ (same : u ≡ q). rw (same, e) (answered .same (sym e) some)) (has-with (variablesAt s p .acks) q u l h (rw a at named))
+  marked-accepted p l h answered (stale e a) u some named = r .own p .marks u some (rw a at named)
+
+  -- a change of the variables, in which nothing is accepted
+  assigned-honest : (p : ℕ) {y : Variables} → y .next ≡ variablesAt s p .next → Later (variablesAt s p) y → Own acc p y → HonestChange s acc acc p (assigning y)
+  assigned-honest p e later own = recording-honest _ Nothing (rw e (accepting-none r p)) later own tt
+
+  -- a record made or cleared, in which nothing is accepted
+  recorded-honest : (p : ℕ) (q : ProcessId) (d : Pending) → Recorded (variablesAt s) (q .0) d → HonestChange s acc acc p (recording (variablesAt s p) q d)
+  recorded-honest p q d recorded = recording-honest q d (accepting-none r p) (later-equal _ _ refl refl) (r .own p) recorded
+
+-- the marks are cleared
+unmarked : {acc : List Acceptance} {p : ℕ} {y : Variables} → y .acks ≡ 0 → ((y .proposal ≡ 0 → ⊥) → leastOf (y .view) .0 ≡ p → y .proposal ≡ y .view) → Own acc p y
+unmarked e leads = record { marks = λ u some named. absurd (has-none u (rw e at named)); leads = leads }
+
+-- ---- each transition
+module _ {s t : System} {acc : List Acceptance} (r : Reached s acc) where
+  unaccepting : After s t acc → After s t (acc ++ [])
+  unaccepting a = rw append-nil a
+
+  pub transition-after : (o : Step) → Transition s t o → After s t (acc ++ acceptances s o)
+  unfolding afterwards
+  transition-after (Report p v) (proposes k) =
+      let i = variablesAt s (p .0) .propout .0 + 1 in
+      unaccepting
+      (effect-after r (all-left s) (k .effect)
+      (assigned-honest r (p .0) refl (later-risen _ _ (omega arith)) (unmarked refl (λ some least. refl)))
+      (λ b named. at-actor (k .effect) (λ y. Proposed y v i) (record { bound = omega arith; same = λ e some. refl })))
+  transition-after (Report p v) (follows k) =
+      unaccepting
+      (quiet-after r (all-left s) (k .effect)
+      (assigned-honest r (p .0) refl (later-equal _ _ refl refl) (record { marks = r .own (p .0) .marks; leads = λ some least. absurd (k .other least) })))
+  transition-after (Receive q p) (records k) =
+      unaccepting (quiet-after r (taken-left (k .taken)) (k .effect) (recorded-honest r (p .0) q (Proposal (k .view) (k .index)) (honest-first r (k .taken))))
+  transition-after (Receive q p) (reproposes k) =
+      unaccepting
+      (effect-after r (taken-left (k .taken)) (k .effect)
+      (assigned-honest r (p .0) refl (later-risen _ _ (omega (arith, k .present, k .rises))) (unmarked refl (r .own (p .0) .leads)))
+      (λ b named.
+      at-actor (k .effect) (λ y. Proposed y (variablesAt s (p .0) .view) (k .new .0))
+      (record { bound = omega arith; same = λ e some. sym (r .own (p .0) .leads some (k .least)) })))
+  transition-after (Receive q p) (ignores k) =
+      unaccepting (quiet-after r (taken-left (k .taken)) (k .effect) (assigned-honest r (p .0) refl (later-equal _ _ refl refl) (r .own (p .0))))
+  transition-after (Receive q p) (marks k) =
+      unaccepting
+      (quiet-after r (taken-left (k .taken)) (k .effect)
+      (assigned-honest r (p .0) refl (later-equal _ _ refl refl)
+      (record { marks = marked-accepted r (p .0) (k .partner .low) (k .partner .eight) (honest-first r (k .taken)) (k .marking); leads = r .own (p .0) .leads })))
+  transition-after (Receive q p) (commits k) =
+      unaccepting
+      (effect-after r (taken-left (k .taken)) (k .effect)
+      (assigned-honest r (p .0) refl (later-equal _ _ refl refl) (unmarked refl (r .own (p .0) .leads)))
+      (λ b named u member.
+      marked-accepted r (p .0) (k .partner .low) (k .partner .eight) (honest-first r (k .taken)) (k .marking) u
+      (not-empty _ _ (k .proposed))
+      (subset-has (variablesAt s (p .0) .proposal) (k .acks) u (k .complete) member)))
+  transition-after (Receive q p) (enters k) =
+      unaccepting
+      (quiet-after r (taken-left (k .taken)) (k .effect)
+      (record {
+        accepting = accepting-none r (p .0);
+        later = later-equal _ _ refl refl;
+        own = r .own (p .0);
+        recorded = tt;
+        past = λ l. k .sound .low;
+        entered = λ l. record { own = k .sound .receiver; agreed = honest-first r (k .taken) };
+      }))
+  transition-after (Respond p q) (accepts k) =
+      let proposed = subst (Recorded (variablesAt s) (q .0)) (k .recorded) (r .recorded (p .0) (q .0)) in
+      let change = accepting-honest r (p .0) (k .view) (k .index .0) (k .sound .receiver) (k .free) q in
+      rw (accepts-this (p .0) (variablesAt s (p .0)) _ (k .view) (k .index) (k .recorded) (k .free))
+      (effect-after r (all-left s) (k .effect) change
+      (λ b named.
+      answered-later (record { still = λ u v i a. a }) (later-all (k .effect) r (all-left s) change b)
+      (answered-this r (p .0) (k .view) (k .index .0) (k .sound .receiver) (k .free)
+      (subst (λ (j : ℕ). Proposed (variablesAt s j) (k .view) (k .index .0)) (sym (has-only (q .0) b (k .partner .low) (k .partner .eight) named)) proposed))))
+  transition-after (Respond p q) (declines k) =
+      rw (accepts-none (p .0) (variablesAt s (p .0)) _ (k .view) (k .index) (k .recorded) (k .late))
+      (unaccepting (effect-after r (all-left s) (k .effect) (recorded-honest r (p .0) q Nothing tt) (λ b named. tt)))
+  transition-after (Crash p) (crashes k) =
+      unaccepting (quiet-after r (all-left s) (k .effect) (assigned-honest r (p .0) refl (later-equal _ _ refl refl) (r .own (p .0))))
+
+-- ---- one step of any kind, done or refused
+either-way : (t : Bool) → _≡_ {A = List Acceptance} [] (pick t [] [])
 unfolding pick
-same-accepted acc s o true = refl
-same-accepted acc s o false = sym (append-nil acc)
+either-way true = refl
+either-way false = refl
 
-attempted-after : (s : System) (acc : List Acceptance) (o : Step) → Reached s acc → Sound s → After s acc (acc ++ accepts s o) (attempted s o)
-unfolding attempted
-attempted-after s acc (Report p v) r sound =
-    rw append-nil
-    (permitting s (p .0) (p .0) acc acc _ r
-    (λ known also.
-    let number = numbered (s .n) (p .0) (sound .high) known in
-    carried s s (p .0) acc acc _ r r (since-same s s (λ j. refl)) number (report-planned s acc r (p .0) number (s .n) v)))
-attempted-after s acc (Receive q p) r sound =
-    rw append-nil (permitting s (p .0) (q .0) acc acc _ r (λ known-p known-q. taking s acc r sound (q .0) (p .0) known-q known-p))
-attempted-after s acc (Respond p q) r sound =
-    permitting s (p .0) (q .0) acc _ _ r (answering s acc r sound (p .0) (q .0))
-attempted-after s acc (Crash p) r sound =
-    rw append-nil (permitting s (p .0) (p .0) acc acc _ r (λ known also. stopping s acc r sound (p .0) known))
-
--- ---- one step of any kind
-stepped-after : (s : System) (acc : List Acceptance) (o : Step) → Reached s acc → After s acc (acc ++ accepts s o) (stepped s o)
-unfolding stepped
-stepped-after s acc o r =
-    by-pick (After s acc (acc ++ accepts s o)) (soundSystem s) _ _
-    (λ sound. attempted-after s acc o r (sound-facts s sound))
-    (λ unsound. unchanged s acc _ 1 refl r)
-
-none-accepted : (t : Bool) → _≡_ {A = List Acceptance} (pick t [] []) []
-unfolding pick
-none-accepted true = refl
-none-accepted false = refl
-
-by-the-list : (s : System) (o : Step) → pick (eqb (stepped s o .refusal) 0) (accepts s o) [] ≡ acceptedBy s o
+accepted-then : (s : System) (o : Step) → acceptedBy s o ≡ pick (eqb (stepped s o .refusal) 0) (acceptances s o) []
 unfolding acceptedBy
-by-the-list s (Report p v) = none-accepted _
-by-the-list s (Receive q p) = none-accepted _
-by-the-list s (Respond p q) = refl
-by-the-list s (Crash p) = none-accepted _
+accepted-then s (Report p v) = either-way _
+accepted-then s (Receive q p) = either-way _
+accepted-then s (Respond p q) = refl
+accepted-then s (Crash p) = either-way _
 
-pub step-reached : (s : System) (acc : List Acceptance) (o : Step) → Reached s acc → Reached (stepped s o .system) (acc ++ acceptedBy s o)
-step-reached s acc o r =
-    subst (Reached (stepped s o .system))
-    (same-accepted acc s o (eqb (stepped s o .refusal) 0) ∙ ap (λ (l : List Acceptance). acc ++ l) (by-the-list s o))
-    (stepped-after s acc o r .reached)
+pub step-after : (s : System) (acc : List Acceptance) (o : Step) → Reached s acc → After s (stepped s o .system) (acc ++ acceptedBy s o)
+unfolding pick
+step-after s acc o r =
+    rw (accepted-then s o)
+    (by-test (soundSystem s)
+    (λ sound. by-outcome Then s o (record { shape = r .shape; sound = sound }) (λ t k. transition-after r o k) same)
+    (λ unsound. subst Then (sym (unsound-is-1 s o unsound)) (same 1 (λ e. omega arith))))
+  where
+    Then : Outcome → Type 0
+    Then a = After s (a .system) (acc ++ pick (eqb (a .refusal) 0) (acceptances s o) [])
 
-pub step-since : (s : System) (acc : List Acceptance) (o : Step) → Reached s acc → Since s (stepped s o .system)
-step-since s acc o r = stepped-after s acc o r .since
+    same : (k : ℕ) → (k ≡ 0 → ⊥) → Then (refused k s)
+    same k n = rw (ne-eqb k 0 n, append-nil) (record { reached = r; since = since-same s })
 
 -- ---- a list of steps
-pub run-reached : (s : System) (acc : List Acceptance) (os : List Step) → Reached s acc → Reached (ran s os) (acc ++ acceptedIn s os)
+pub run-after : (s : System) (acc : List Acceptance) (os : List Step) → Reached s acc → After s (ran s os) (acc ++ acceptedIn s os)
 unfolding ran acceptedIn
-run-reached s acc [] r = rw append-nil r
-run-reached s acc (o ∷ os) r =
+run-after s acc [] r = rw append-nil (record { reached = r; since = since-same s })
+run-after s acc (o ∷ os) r =
+    let first = step-after s acc o r in
+    let rest = run-after (stepped s o .system) (acc ++ acceptedBy s o) os (first .reached) in
     rw (← append-assoc acc (acceptedBy s o) (acceptedIn (stepped s o .system) os))
-    (run-reached (stepped s o .system) (acc ++ acceptedBy s o) os (step-reached s acc o r))
-
-pub run-since : (s : System) (acc : List Acceptance) (os : List Step) → Reached s acc → Since s (ran s os)
-unfolding ran
-run-since s acc [] r = since-same s s (λ k. refl)
-run-since s acc (o ∷ os) r =
-    since-then s (stepped s o .system) (ran (stepped s o .system) os) (step-since s acc o r)
-    (run-since (stepped s o .system) (acc ++ acceptedBy s o) os (step-reached s acc o r))
+    (record { reached = rest .reached; since = since-then (first .since) (rest .since) })

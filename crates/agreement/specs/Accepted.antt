@@ -7,12 +7,12 @@ use lib.Dec.{ltb, eqb}
 use Rattle.view.specs.Logic.{pick}
 use Rattle.system.specs.declared.Pending.{Pending}
 use Rattle.system.specs.declared.Pending.the-variants.{Nothing, Proposal}
-use Rattle.system.specs.declared.Process.{Process}
+use Rattle.system.specs.declared.Variables.{Variables}
 use Rattle.system.specs.declared.System.{System}
 use Rattle.system.specs.Process.{pendingAt}
-use Rattle.system.specs.System.{processAt}
-use Rattle.step.specs.declared.Step.{Step}
-use Rattle.step.specs.declared.Step.the-variants.{Report, Receive, Respond, Crash}
+use Rattle.system.specs.System.{processAt, variablesAt}
+use Rattle.plan.specs.declared.Step.{Step}
+use Rattle.plan.specs.declared.Step.the-variants.{Report, Receive, Respond, Crash}
 use Rattle.step.specs.Step.{stepped}
 
 pub record Acceptance : Type 0 where
@@ -21,7 +21,7 @@ pub record Acceptance : Type 0 where
   pub index : ℕ
 
 -- an answer of p, whose variables are x, to what it has recorded: a Retry accepts nothing
-unfoldable pub acceptedFrom : ℕ → Process → Pending → List Acceptance
+unfoldable pub acceptedFrom : ℕ → Variables → Pending → List Acceptance
 acceptedFrom p x Nothing = []
 acceptedFrom p x (Proposal v i) = pick (ltb (i .0) (x .next .0)) [] (record { process = p; view = v; index = i .0 } ∷ [])
 
@@ -31,7 +31,7 @@ acceptedBy s (Report p v) = []
 acceptedBy s (Receive q p) = []
 acceptedBy s (Respond p q) =
     pick (eqb (stepped s (Respond p q) .refusal) 0)
-    (acceptedFrom (p .0) (processAt s (p .0)) (pendingAt (processAt s (p .0)) (q .0)))
+    (acceptedFrom (p .0) (variablesAt s (p .0)) (pendingAt (processAt s (p .0)) (q .0)))
     []
 acceptedBy s (Crash p) = []
 

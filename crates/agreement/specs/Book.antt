@@ -18,8 +18,8 @@ abbrev pub isWritten : ℕ → Bool
 isWritten v = not (eqb v 0)
 
 -- the entry of process p at index i in a system
-unfoldable pub entryOf : System → ℕ → ℕ → ℕ
-entryOf s p i = entryAt (processAt s p .history) i
+unfoldable pub entryIn : System → ℕ → ℕ → ℕ
+entryIn s p i = entryAt (processAt s p .history) i
 
 pub record Agreement : Type 0 where
   pub view : ℕ
@@ -36,8 +36,8 @@ unfoldable pub bookEntry : Book → ℕ → ℕ → ℕ
 bookEntry b p i = entryAt (at (b .histories) p noEntries) i
 
 -- a book that starts as the histories of a system
-unfoldable pub opened : System → Book
-opened s = record { histories = map (λ (x : Process). x .history) (s .processes); last = 0; made = [] }
+unfoldable pub openedBook : System → Book
+openedBook s = record { histories = map (λ (x : Process). x .history) (s .processes); last = 0; made = [] }
 
 -- the two share no process
 unfoldable pub apart : ℕ → ℕ → Bool

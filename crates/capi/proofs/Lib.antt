@@ -1,4 +1,2 @@
-pub mod Calls
-pub mod Image
-pub mod Laws
-pub mod Runs
+pub mod Printed
+pub mod Started

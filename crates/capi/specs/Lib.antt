@@ -1,3 +1,2 @@
--- The image of a system in bytes, and what a step on an image does.
-pub mod Image
+-- What the functions for other languages answer and leave in what they were lent.
 pub mod Calls

@@ -1,59 +1,93 @@
--- The worked sheets K1 to K9 and the single steps come out as document 01 says, by computation.
+-- The worked sheets, the single steps and the agreement rule come out as document 01 says, by computation.
+use Prim.Native.Nat.{ℕ}
 use mathlib.Core.Path.{_≡_, refl}
-use mathlib.Core.Bool.{true}
+use mathlib.Core.Bool.{true, false}
 use mathlib.Core.List.{map}
-use Rattle.view.specs.Logic.{pick, allUpTo, eachUpTo, at, put}
+use Rattle.view.specs.Logic.{pick, allUpTo, eachUpTo, at, put, isOneOf}
 use Rattle.view.specs.View.{has, within, with, everyone, firstFrom, leastOf}
 use Rattle.channel.specs.Channel.{emptyChannel, waiting, pushed, popped}
-use Rattle.system.specs.Process.{entryAt, withEntry, pendingAt, withPending}
-use Rattle.system.specs.System.{noProcess, processAt, withProcess, channelNumber, channelAt, withChannel, sent, sentIfNamed, broadcasted, takesIfNamed, roomFor}
-use Rattle.system.specs.Fresh.{freshProcess, freshSystem, freshOf}
-use Rattle.sound.specs.Sound.{every, soundProposal, soundMessage, soundPending, soundChannel, soundHistory, soundFields, soundProcess, soundChannelAt, soundAt, soundSystem}
-use Rattle.plan.specs.Fields.{withHistory, asCrashed}
-use Rattle.plan.specs.Plan.{reportPlan, committingPlan, messagePlan, receivePlan, recordedPlan, respondPlan}
-use Rattle.step.specs.Step.{permitted, carriedOut, takenOff, emptiedFrom, stopped, attempted, stepped}
 use Rattle.system.specs.declared.Process.{Process}
-use Rattle.step.specs.Step.{ran}
-use Rattle.step.specs.declared.Step.{Step}
-use Rattle.system.specs.System.{refused}
+use Rattle.system.specs.Process.{entryAt, withEntry, asCrashed, pendingAt, withPending, withVariables, withHistory}
+use Rattle.system.specs.System.{noProcess, processAt, withProcess, channelNumber, channelAt, withChannel, sent, sentIfNamed, broadcasted, takesIfNamed, roomFor, refused}
+use Rattle.system.specs.Fresh.{freshVariables, freshProcess, freshSystem, freshOf}
+use Rattle.sound.specs.Sound.{every, soundProposal, soundMessage, soundPending, soundChannel, soundHistory, soundVariables, soundProcess, soundChannelAt, soundAt, soundSystem}
+use Rattle.plan.specs.declared.Step.{Step}
+use Rattle.plan.specs.Plan.{changed, reportPlan, committingPlan, messagePlan, receivePlan, respondPlan}
+use Rattle.plan.specs.Scope.{scopeOf}
+use Rattle.step.specs.Step.{planOf, takenOff, emptiedFrom, crashedAt, crashedIf, effected, carriedOut, permitted, attempted, stepped, ran}
 use Rattle.agreement.specs.Accepted.{acceptedFrom, acceptedBy, acceptedIn, accepted}
-use Rattle.agreement.specs.Book.{entryOf, bookEntry, opened, apart, apartFrom, admits, writtenIn, madeIn, fed, fedAll, noneRefused}
+use Rattle.agreement.specs.Book.{bookEntry, openedBook, apart, apartFrom, admits, writtenIn, madeIn, fed, fedAll, noneRefused}
 use Rattle.agreement.specs.Demand.{start}
-use Rattle.cases.specs.Rule.{acceptance, agreement, k2-accepted, k2-agreements, k2-book, at-two, at-three, twice-accepted, shared, trials, isMade, shouldBeMade}
-use Rattle.cases.specs.Case.{computed, expected, resultOf, lineOf, unitsTo, entriesTo, ranFrom, logged}
-use Rattle.cases.specs.Sheets.{cases, holding, alone, k1-ends, k1, k2, k3, k4, k4-full, k5-stays, k5, k6, k7, k8, k9}
-use Rattle.cases.specs.Points.{points, did, said, variables, carrying, recorded, written, crashed}
+use Rattle.print.specs.Text.{bytes, textUpTo, digits, decimal, memberText, viewText}
+use Rattle.print.specs.Print.{numberedLine, entryText, entryTextAt, historyText, unitLine, unitOf, unitLines}
+use Rattle.sheet.specs.Lines.{inFirst, withByte, linesOf}
+use Rattle.sheet.specs.Parse.{stands, begins, fits, digitAt, rising, viewIn, reported, parsed}
+use Rattle.run.specs.Output.{lineOutcome, printedThen, printedFrom, badFrom, sizeIn, startedBy, linesOutput, output}
+use Rattle.cases.specs.Systems.{withValues, withStop, withRecord, withWritten, loaded, withMessages, lone}
+use Rattle.cases.specs.Worked.{textOf, stepIn, stepsIn, stepsOf, printedBy, startOf, ranOn, queueIn, resultOf, expectedResult}
+use Rattle.cases.specs.Sheets.{k-sheets, k1, k1-ends, k2, k3, k4, k4-full, k5-stays, k5, k6, k7, k8, k8-nine, k9, form-sheets, no-last-lf, later-u, empty-lines, first-u9, one-lf, empty}
+use Rattle.cases.specs.Points.{points, outcomeOf, expectedOutcome}
+use Rattle.cases.specs.Rule.{k2-accepted, k2-agreements, k2-book, at-two, at-three, twice-accepted, shared, trials, admittedBy, expectedAnswer}
 
 -- what the claims are computed with: a claim that unfolds this one unfolds all that its line names
 definitions : Unit {0}
-unfolding pick allUpTo eachUpTo at put has within with everyone firstFrom leastOf emptyChannel waiting pushed popped entryAt withEntry pendingAt withPending noProcess processAt withProcess channelNumber channelAt withChannel sent sentIfNamed broadcasted takesIfNamed roomFor freshProcess freshSystem freshOf every soundProposal soundMessage soundPending soundChannel soundHistory soundFields soundProcess soundChannelAt soundAt soundSystem withHistory asCrashed reportPlan committingPlan messagePlan receivePlan recordedPlan respondPlan permitted carriedOut takenOff emptiedFrom stopped attempted stepped computed resultOf lineOf unitsTo entriesTo ranFrom logged holding alone k1 k2 k3 k4 k4-full k5-stays k5 k6 k7 k8 k9 ran acceptedFrom acceptedBy acceptedIn accepted entryOf bookEntry opened apart apartFrom admits writtenIn madeIn fed fedAll noneRefused acceptance agreement k2-accepted k2-agreements k2-book at-two at-three twice-accepted shared trials isMade k1-ends variables carrying recorded written crashed
+unfolding pick allUpTo eachUpTo at put has within with everyone firstFrom leastOf
+    emptyChannel waiting pushed popped
+    entryAt withEntry asCrashed pendingAt withPending withVariables withHistory
+    noProcess processAt withProcess channelNumber channelAt withChannel sent sentIfNamed broadcasted takesIfNamed roomFor
+    freshVariables freshProcess freshSystem freshOf
+    every soundProposal soundMessage soundPending soundChannel soundHistory soundVariables soundProcess soundChannelAt soundAt soundSystem
+    changed reportPlan committingPlan messagePlan receivePlan respondPlan scopeOf
+    planOf takenOff emptiedFrom crashedAt crashedIf effected carriedOut permitted attempted stepped ran
+    acceptedFrom acceptedBy acceptedIn accepted
+    bookEntry openedBook apart apartFrom admits writtenIn madeIn fed fedAll noneRefused
+    bytes textUpTo digits decimal memberText viewText
+    numberedLine entryText entryTextAt historyText unitLine unitOf unitLines
+    inFirst withByte linesOf stands begins fits digitAt rising viewIn reported parsed
+    lineOutcome printedThen printedFrom badFrom sizeIn startedBy linesOutput output
+    withValues withStop withRecord withWritten loaded withMessages lone
+    textOf stepIn stepsIn stepsOf printedBy startOf ranOn queueIn resultOf expectedResult
+    k1 k1-ends k2 k3 k4 k4-full k5-stays k5 k6 k7 k8 k8-nine k9 no-last-lf later-u empty-lines first-u9 one-lf empty
+    outcomeOf
+    k2-accepted k2-agreements k2-book at-two at-three twice-accepted shared trials admittedBy
 definitions = tt
 
-pub worked-sheets : map computed cases ≡ map expected cases
+-- The cases marked K.
+pub worked-sheets : map resultOf k-sheets ≡ map expectedResult k-sheets
 unfolding definitions
 worked-sheets = refl
 
-pub worked-points : map did points ≡ map said points
+-- Small sheets at the edges of the form.
+pub worked-forms : map resultOf form-sheets ≡ map expectedResult form-sheets
+unfolding definitions
+worked-forms = refl
+
+pub worked-points : map outcomeOf points ≡ map expectedOutcome points
 unfolding definitions
 worked-points = refl
 
--- K8, of every step there is: "every step on it gives 1".
-pub k8-every-step : (o : Step) → stepped (freshOf 0 .system) o ≡ refused 1 (freshOf 0 .system)
+-- K8, of every size outside 1 to 8: it "gives refusal 2 and a table of zero units"; and of every step there is: "every step on it
+-- gives 1".
+pub k8-every-size : (n : ℕ) → isOneOf 8 n ≡ false → freshOf n ≡ refused 2 (freshSystem 0)
+unfolding definitions
+k8-every-size n e = rw e
+
+pub k8-every-step : (o : Step) → stepped (freshSystem 0) o ≡ refused 1 (freshSystem 0)
 unfolding definitions
 k8-every-step o = refl
 
 -- K1's complete final system.
-pub k1-final : ran (start 2) (k1 .steps) ≡ k1-ends
+pub k1-final : ran (start 2) (stepsOf (k1 .text)) ≡ k1-ends
 unfolding definitions
 k1-final = refl
 
 -- The agreement rule makes and refuses what it should.
-pub worked-agreements : map isMade trials ≡ map shouldBeMade trials
+pub worked-agreements : map admittedBy trials ≡ map expectedAnswer trials
 unfolding definitions
 worked-agreements = refl
 
 -- What is accepted in K2, told from its steps; and its two agreements, none refused, leave its entries in the book.
-pub k2-accepts : acceptedIn (start 2) (k2 .steps) ≡ k2-accepted
+pub k2-accepts : acceptedIn (start 2) (stepsOf (k2 .text)) ≡ k2-accepted
 unfolding definitions
 k2-accepts = refl
 
@@ -61,6 +95,6 @@ pub k2-none-refused : noneRefused k2-accepted k2-book k2-agreements ≡ true
 unfolding definitions
 k2-none-refused = refl
 
-pub k2-book-is : fedAll k2-accepted k2-book k2-agreements .histories ≡ map (λ (x : Process). x .history) (ran (start 2) (k2 .steps) .processes)
+pub k2-book-is : fedAll k2-accepted k2-book k2-agreements .histories ≡ map (λ (x : Process). x .history) (ran (start 2) (stepsOf (k2 .text)) .processes)
 unfolding definitions
 k2-book-is = refl

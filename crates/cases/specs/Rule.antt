@@ -4,14 +4,16 @@ use Prim.Native.Nat.{ℕ}
 use mathlib.Core.Bool.{Bool, true, false}
 use mathlib.Core.List.{List, [], _∷_}
 use Rattle.agreement.specs.Accepted.{Acceptance}
-use Rattle.agreement.specs.Book.{Agreement, Book, opened, fed, admits}
+use Rattle.agreement.specs.Book.{Agreement, Book, openedBook, fed, admits}
 use Rattle.agreement.specs.Demand.{start}
 
-unfoldable pub acceptance : ℕ → ℕ → ℕ → Acceptance
-acceptance u v i = record { process = u; view = v; index = i }
+-- process p has accepted view v at index i
+abbrev acceptance : ℕ → ℕ → ℕ → Acceptance
+acceptance p v i = record { process = p; view = v; index = i }
 
-unfoldable pub agreement : ℕ → ℕ → ℕ → Agreement
-agreement v i recipients = record { view = v; index = i; recipients = recipients }
+-- view v at index i, for these processes to write
+abbrev agree : ℕ → ℕ → ℕ → Agreement
+agree v i recipients = record { view = v; index = i; recipients = recipients }
 
 -- what the steps of K2 have accepted, in their order
 unfoldable pub k2-accepted : List Acceptance
@@ -19,56 +21,58 @@ k2-accepted = acceptance 2 2 2 ∷ acceptance 1 3 2 ∷ acceptance 1 3 3 ∷ acc
 
 -- the agreements of K2
 unfoldable pub k2-agreements : List Agreement
-k2-agreements = agreement 2 2 2 ∷ agreement 3 3 3 ∷ []
+k2-agreements = agree 2 2 2 ∷ agree 3 3 3 ∷ []
 
 -- the book at the start of K2, after its first agreement, and after one at 3 of which process 1 alone is written
 unfoldable pub k2-book : Book
-k2-book = opened (start 2)
+k2-book = openedBook (start 2)
 
 unfoldable pub at-two : Book
-at-two = fed k2-accepted k2-book (agreement 2 2 2)
+at-two = fed k2-accepted k2-book (agree 2 2 2)
 
 unfoldable pub at-three : Book
-at-three = fed k2-accepted k2-book (agreement 3 3 1)
+at-three = fed k2-accepted k2-book (agree 3 3 1)
 
 -- both processes have accepted {1,2} at 4, and process 1 has accepted {1} there too: no list of steps does that
 unfoldable pub twice-accepted : List Acceptance
 twice-accepted = acceptance 1 3 4 ∷ acceptance 2 3 4 ∷ acceptance 1 1 4 ∷ []
 
 unfoldable pub shared : Book
-shared = fed twice-accepted k2-book (agreement 3 4 2)
+shared = fed twice-accepted k2-book (agree 3 4 2)
 
 pub record Trial : Type 0 where
-  pub accepted : List Acceptance
+  pub told : List Acceptance
   pub book : Book
-  pub agreement : Agreement
-  pub made : Bool
+  pub offered : Agreement
+  pub makes : Bool
 
 abbrev trial : List Acceptance → Book → Agreement → Bool → Trial
-trial a b g m = record { accepted = a; book = b; agreement = g; made = m }
+trial a b g x = record { told = a; book = b; offered = g; makes = x }
 
 unfoldable pub trials : List Trial
 trials =
     -- the first agreement, and after it the second
-    trial k2-accepted k2-book (agreement 2 2 2) true
-    ∷ trial k2-accepted at-two (agreement 3 3 3) true
+    trial k2-accepted k2-book (agree 2 2 2) true
+    ∷ trial k2-accepted at-two (agree 3 3 3) true
     -- process 2 has not accepted {1,2} at 2
-    ∷ trial k2-accepted k2-book (agreement 3 2 1) false
+    ∷ trial k2-accepted k2-book (agree 3 2 1) false
     -- the index is below that of the last one made
-    ∷ trial k2-accepted at-three (agreement 2 2 2) false
+    ∷ trial k2-accepted at-three (agree 2 2 2) false
     -- the index is not empty in the book at process 2
-    ∷ trial k2-accepted at-two (agreement 2 2 2) false
+    ∷ trial k2-accepted at-two (agree 2 2 2) false
     -- index 4 is empty at process 1, but an agreement made there names it too
-    ∷ trial twice-accepted k2-book (agreement 1 4 1) true
-    ∷ trial twice-accepted shared (agreement 1 4 1) false
+    ∷ trial twice-accepted k2-book (agree 1 4 1) true
+    ∷ trial twice-accepted shared (agree 1 4 1) false
     -- nobody is to be written
-    ∷ trial k2-accepted k2-book (agreement 2 2 0) false
+    ∷ trial k2-accepted k2-book (agree 2 2 0) false
     -- another than a process of the view is to be written
-    ∷ trial k2-accepted k2-book (agreement 2 2 3) false
+    ∷ trial k2-accepted k2-book (agree 2 2 3) false
     ∷ []
 
-unfoldable pub isMade : Trial → Bool
-isMade t = admits (t .accepted) (t .book) (t .agreement)
+-- by the rule
+unfoldable pub admittedBy : Trial → Bool
+admittedBy t = admits (t .told) (t .book) (t .offered)
 
-abbrev pub shouldBeMade : Trial → Bool
-shouldBeMade t = t .made
+-- by the trial
+abbrev pub expectedAnswer : Trial → Bool
+expectedAnswer t = t .makes

@@ -1,7 +1,9 @@
 // Reading a sheet whole, and the buffers that a sheet and its output need.
+ghost use Prim.Native.Nat.{_+_, _≤_};
 ghost use mathlib.Core.Path.{_≡_};
 ghost use lib.ListN.{length};
-ghost use Rattle.io.specs.Counts.{Counts};
+ghost use lib.Seq.{paste};
+ghost use Rattle.input.specs.Received.{Zeros, ReadAt, Received};
 
 // What was read: the buffer's first `len` bytes. Where `failed` holds, a read has failed after them;
 // otherwise the input ended there, or the buffer is full.
@@ -12,39 +14,80 @@ pub struct Input {
 
 // Room for a sheet and one byte more, by which a long sheet shows.
 pub fn sheet_buffer() -> [u8; 60001]
-    ensures { λ r. ⌜ 60001 ≡ length r ⌝ }
+    ensures { λ r. ⌜ Zeros 60001 r ⌝ }
 {
     [0; 60001]
 }
 
 // Room for what is printed for any sheet.
 pub fn output_buffer() -> [u8; 483400]
-    ensures { λ r. ⌜ 483400 ≡ length r ⌝ }
+    ensures { λ r. ⌜ Zeros 483400 r ⌝ }
 {
     [0; 483400]
 }
 
+fn lesser(a: usize, b: usize) -> usize
+    ensures { λ r. ⌜ (r ≤ a) × (r ≤ b) ⌝ }
+{
+    if a < b { a } else { b }
+}
+
+// The first n bytes of one buffer go to a place of another.
+fn copy(from: &[u8], n: usize, buf: &mut [u8], at: usize)
+    requires { ⌜ (n ≤ length (now from)) × (at + n ≤ length (now buf)) ⌝ }
+    ensures { λ _. ⌜ now (buf .exit) ≡ paste (now (buf .entry)) at (now (from .entry)) n ⌝ }
+{
+    let mut i = 0;
+    while i < n {
+        buf[at + i] = from[i];
+        i += 1;
+    }
+}
+
+// One read, put at a place of the buffer. It goes by way of a chunk: of the bytes in the slice that
+// it is lent, `libc::read` promises nothing, not even of those past its count.
+fn read_some(fd: i32, buf: &mut [u8], at: usize, chunk: &mut [u8]) -> Input
+    requires { ⌜ at ≤ length (now buf) ⌝ }
+    ensures { λ r. ⌜ ReadAt (r .failed) (r .len) at (now (buf .entry)) (now (buf .exit)) (now (chunk .exit)) ⌝ }
+{
+    let n = lesser(buf.len() - at, chunk.len());
+    let got = libc::read(fd, &mut chunk[..n]);
+    if got < 0 {
+        return Input {
+            failed: true,
+            len: 0,
+        };
+    }
+    let more = lesser(io::count(got, chunk), n);
+    copy(chunk, more, buf, at);
+    Input {
+        failed: false,
+        len: more,
+    }
+}
+
 // Reads until the buffer is full, the input ends or a read fails.
 pub fn read_input(fd: i32, buf: &mut [u8]) -> Input
-    ensures { λ r. ⌜ Counts (r .len) (now (buf .exit)) ⌝ }
+    ensures { λ r. ⌜ Received (r .failed) (r .len) (now (buf .entry)) (now (buf .exit)) ⌝ }
 {
+    let mut space = io::large_buffer();
+    let chunk: &mut [u8] = &mut space;
     let mut done = 0;
     while done < buf.len() {
-        let got = libc::read(fd, &mut buf[done..]);
-        if got < 0 {
+        let more = read_some(fd, buf, done, chunk);
+        if more.failed {
             return Input {
                 failed: true,
                 len: done,
             };
         }
-        let more = io::count(got, &buf[done..]);
-        if more == 0 {
+        if more.len == 0 {
             return Input {
                 failed: false,
                 len: done,
             };
         }
-        done += more;
+        done += more.len;
     }
     Input {
         failed: false,

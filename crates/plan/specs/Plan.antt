@@ -1,10 +1,11 @@
 -- Figure 3, guarded command by guarded command: what process p, whose variables are x, does. Each sends one message to a set of
 -- processes, or none to the empty set, or is refused with a number of document 01's refusal table.
 use Prim.Native.Nat.{ℕ, _+_}
-use mathlib.Core.Bool.{_&&_, not}
+use mathlib.Core.Bool.{Bool, true, false, _&&_, not}
 use lib.Dec.{leb, ltb, eqb}
-use Rattle.view.specs.Logic.{pick}
+use Rattle.view.specs.Logic.{pick, unless, put}
 use Rattle.view.specs.View.{has, within, subset, with, leastOf}
+use Rattle.view.specs.declared.ProcessId.{ProcessId}
 use Rattle.channel.specs.declared.Message.{Message}
 use Rattle.channel.specs.declared.Message.the-variants.{Propose, Retry, Acc, Commit}
 use Rattle.channel.specs.declared.Front.{Front}
@@ -12,64 +13,91 @@ use Rattle.channel.specs.declared.Front.the-variants.{Waiting}
 use Rattle.channel.specs.declared.Front.the-variants.{Nothing as Empty}
 use Rattle.system.specs.declared.Pending.{Pending}
 use Rattle.system.specs.declared.Pending.the-variants.{Nothing, Proposal}
+use Rattle.system.specs.declared.Variables.{Variables}
 use Rattle.system.specs.declared.Process.{Process}
-use Rattle.system.specs.Process.{withEntry, pendingAt, withPending}
+use Rattle.system.specs.Process.{index, withEntry, pendingSlot}
+use Rattle.plan.specs.declared.Change.{Change}
 use Rattle.plan.specs.declared.Plan.{Plan}
-use Rattle.plan.specs.Fields.{index, withView, withNext, withAcks, proposing, reproposing, withHistory, asCrashed}
+use Rattle.plan.specs.Fields.{withView, withNext, withAcks, proposing, reproposing}
 
--- x is what the process becomes; m goes to each process of the view
-abbrev pub sending : Process → ℕ → Message → Plan
-sending x to m = record { refusal = 0; process = x; addressees = to; message = m }
+-- ---- what becomes of the acting process
+-- its variables
+abbrev pub assigning : Variables → Change
+assigning x = record { variables = x; proposer = record { 0 = 0 }; pending = Nothing; index = index 0; entry = 0 }
 
--- the process becomes x and nothing is sent: Figure 3's skip, and its commands that send nothing
-abbrev pub quietly : Process → Plan
-quietly x = sending x 0 (Propose 0 (index 0))
+-- its variables, and the record of what process q has proposed
+abbrev pub recording : Variables → ProcessId → Pending → Change
+recording x q r = record { variables = x; proposer = q; pending = r; index = index 0; entry = 0 }
 
-abbrev pub refusing : ℕ → Process → Plan
-refusing k x = record { refusal = k; process = x; addressees = 0; message = Propose 0 (index 0) }
+-- its history at index i
+abbrev pub entering : Variables → ℕ → ℕ → Change
+entering x i v = record { variables = x; proposer = record { 0 = 0 }; pending = Nothing; index = index i; entry = v }
+
+-- the process after the change. No record is from a process 0 and no entry at an index 0, so that nothing changes there
+unfoldable pub changed : Process → Change → Process
+changed x c =
+    record {
+      variables = c .variables;
+      pending = put (x .pending) (c .proposer .0) (pendingSlot (c .pending));
+      history = withEntry (x .history) (c .index .0) (c .entry);
+    }
+
+-- ---- plans
+abbrev pub plan : ℕ → Change → Bool → ℕ → Message → Plan
+plan k c stops to m = record { refusal = k; change = c; stops = stops; addressees = to; message = m }
+
+-- the process changes so, and m goes to each process of the view
+abbrev pub sending : Change → ℕ → Message → Plan
+sending c to m = plan 0 c false to m
+
+abbrev pub noMessage : Message
+noMessage = Propose 0 (index 0)
+
+-- the process changes so and nothing is sent: Figure 3's skip, and its commands that send nothing
+abbrev pub quietly : Change → Plan
+quietly c = sending c 0 noMessage
+
+abbrev pub refusing : ℕ → Variables → Plan
+refusing k x = plan k (assigning x) false 0 noMessage
 
 -- First guarded command, a report of view v:
 --   local?(v_p); [ p = min(v_p) → PropOut := PropOut + 1; v* := v_p; SN_q! Propose(v*, PropOut) for q in v*; ack := 0
 --   [] else → skip ]
 -- Refusal 4: "a report names a unit beyond n, or lacks its own unit". Refusal 6: "by the least unit of its view with PropOut 32".
-unfoldable pub reportPlan : ℕ → ℕ → ℕ → Process → Plan
+unfoldable pub reportPlan : ℕ → ℕ → ℕ → Variables → Plan
 reportPlan n p v x =
-    pick (within n v && has v p)
+    unless (within n v && has v p) (refusing 4 x)
     (pick (eqb (leastOf v .0) p)
-    (pick (ltb (x .propout .0) 32)
-    (sending (proposing x v (x .propout .0 + 1)) v (Propose v (index (x .propout .0 + 1))))
-    (refusing 6 x))
-    (quietly (withView x v)))
-    (refusing 4 x)
+    (unless (ltb (x .propout .0) 32) (refusing 6 x)
+    (sending (assigning (proposing x v (x .propout .0 + 1))) v (Propose v (index (x .propout .0 + 1)))))
+    (quietly (assigning (withView x v))))
 
 -- Second guarded command, Acc, once the mark is made:
 --   [ ∀ q in v*: ack[q] = 1 → SN_q! Commit(v*, PropOut) for q in v*; ack := 0 [] else → skip ]
 -- Document 01's departure: "while the last proposed view is empty, an Acc sends nothing and clears no marks".
-unfoldable pub committingPlan : Process → Plan
+unfoldable pub committingPlan : Variables → Plan
 committingPlan x =
     pick (not (eqb (x .proposal) 0) && subset (x .proposal) (x .acks))
-    (sending (withAcks x 0) (x .proposal) (Commit (x .proposal) (x .propout)))
-    (quietly x)
+    (sending (assigning (withAcks x 0)) (x .proposal) (Commit (x .proposal) (x .propout)))
+    (quietly (assigning x))
 
 -- Second guarded command: R_q?m at p, by the type of m.
-unfoldable pub messagePlan : ℕ → ℕ → Process → Message → Plan
+unfoldable pub messagePlan : ProcessId → ℕ → Variables → Message → Plan
 --   Propose → (v[q], PropIn[q]) := m; Prop[q] := true
-messagePlan q p x (Propose v i) = quietly (withPending x q (Proposal v i))
+messagePlan q p x (Propose v i) = quietly (recording x q (Proposal v i))
 --   Retry → (old, new) := m; [ PropOut = old ∧ p = min(v_p) → PropOut := new; SN_q! Propose(v_p, PropOut) for q in v_p; ack := 0
 --   [] else → skip ]. Refusal 6: "a Retry that would be acted on, with new 33".
 messagePlan q p x (Retry old new) =
     pick (eqb (x .propout .0) (old .0) && eqb (leastOf (x .view) .0) p)
-    (pick (leb (new .0) 32)
-    (sending (reproposing x (new .0)) (x .view) (Propose (x .view) new))
-    (refusing 6 x))
-    (quietly x)
+    (unless (leb (new .0) 32) (refusing 6 x) (sending (assigning (reproposing x (new .0))) (x .view) (Propose (x .view) new)))
+    (quietly (assigning x))
 --   Acc → i := m; [ PropOut = i → ack[q] := 1 [] else → skip ]; and then as above, stale or not
-messagePlan q p x (Acc i) = committingPlan (pick (eqb (x .propout .0) (i .0)) (withAcks x (with (x .acks) q)) x)
+messagePlan q p x (Acc i) = committingPlan (pick (eqb (x .propout .0) (i .0)) (withAcks x (with (x .acks) (q .0))) x)
 --   Commit → (view, i) := m; V_pi := view
-messagePlan q p x (Commit v i) = quietly (withHistory x (withEntry (x .history) (i .0) v))
+messagePlan q p x (Commit v i) = quietly (entering x (i .0) v)
 
 -- the oldest message of the channel, if one waits. Refusal 5: "taking from an empty line".
-unfoldable pub receivePlan : ℕ → ℕ → Process → Front → Plan
+unfoldable pub receivePlan : ProcessId → ℕ → Variables → Front → Plan
 receivePlan q p x Empty = refusing 5 x
 receivePlan q p x (Waiting m) = messagePlan q p x m
 
@@ -78,20 +106,14 @@ receivePlan q p x (Waiting m) = messagePlan q p x m
 --   [] PropIn[q] ≥ Next → Next = PropIn[q] + 1; SN_q! Acc(PropIn[q]) ]
 -- Refusal 5: "answering with no recorded proposal, or with one whose view is not the local view".
 -- A record past index 32 stands in no sound system: the number is 1, so that no index passes 33.
-unfoldable pub recordedPlan : ℕ → Process → Pending → Plan
-recordedPlan q x Nothing = refusing 5 x
-recordedPlan q x (Proposal v i) =
-    pick (eqb v (x .view))
+unfoldable pub respondPlan : ProcessId → Variables → Pending → Plan
+respondPlan q x Nothing = refusing 5 x
+respondPlan q x (Proposal v i) =
+    unless (eqb v (x .view)) (refusing 5 x)
     (pick (ltb (i .0) (x .next .0))
-    (sending (withPending x q Nothing) (with 0 q) (Retry i (x .next)))
-    (pick (leb (i .0) 32)
-    (sending (withNext (withPending x q Nothing) (i .0 + 1)) (with 0 q) (Acc i))
-    (refusing 1 x)))
-    (refusing 5 x)
+    (sending (recording x q Nothing) (with 0 (q .0)) (Retry i (x .next)))
+    (unless (leb (i .0) 32) (refusing 1 x) (sending (recording (withNext x (i .0 + 1)) q Nothing) (with 0 (q .0)) (Acc i))))
 
-unfoldable pub respondPlan : ℕ → Process → Plan
-respondPlan q x = recordedPlan q x (pendingAt x q)
-
--- a stop: the process has crashed, and sends nothing
-abbrev pub crashPlan : Process → Plan
-crashPlan x = quietly (asCrashed x)
+-- a stop: nothing changes but that the process stops, and nothing is sent
+abbrev pub crashPlan : Variables → Plan
+crashPlan x = plan 0 (assigning x) true 0 noMessage

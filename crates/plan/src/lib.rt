@@ -3,13 +3,18 @@ ghost use mathlib.Core.Path.{_≡_};
 ghost use lib.Dec.{eqb};
 ghost use Rattle.view.specs.Logic.{pick};
 ghost use Rattle.view.specs.View.{with};
-ghost use Rattle.plan.specs.Fields.{assigned, withView, withNext, withAcks, proposing, reproposing};
-ghost use Rattle.plan.specs.Plan.{sending, quietly, refusing, reportPlan, committingPlan, messagePlan, receivePlan, respondPlan, crashPlan};
+ghost use Rattle.system.specs.Process.{assigned};
+ghost use Rattle.plan.specs.Fields.{withView, withNext, withAcks, proposing, reproposing};
+ghost use Rattle.plan.specs.Plan.{assigning, recording, entering, sending, quietly, refusing, reportPlan, committingPlan, messagePlan, receivePlan, respondPlan, crashPlan};
+ghost use Rattle.plan.specs.Scope.{scopeOf};
 use channel::Front;
 use channel::Message;
 use system::Pending;
-use system::Process;
-use system::with_pending;
+use system::Variables;
+use system::refusal::HISTORY_FULL;
+use system::refusal::NOTHING_THERE;
+use system::refusal::ODD_VIEW;
+use system::refusal::UNSOUND;
 use view::GroupIndex;
 use view::ProcessId;
 use view::and;
@@ -19,136 +24,204 @@ use view::subset;
 use view::with;
 use view::within;
 
-// Document 01's refusal table. Refusal 2, "stranger", is system::STRANGER.
-pub const UNSOUND: u8 = 1;
+// One step of any kind.
+pub enum Step {
+    // The process is told its view.
+    Report(ProcessId, u8),
+    // From the first process, at the second: the oldest message comes off the channel.
+    Receive(ProcessId, ProcessId),
+    // The first process answers the proposal that it recorded from the second.
+    Respond(ProcessId, ProcessId),
+    // The process stops for good.
+    Crash(ProcessId),
+}
 
-pub const CRASHED: u8 = 3;
+// Whom a step names.
+pub struct Scope {
+    // The process that acts.
+    pub actor: ProcessId,
+    // The other one that the step names; the same where it names one.
+    pub partner: ProcessId,
+    // It takes a message off the channel from the partner.
+    pub takes: bool,
+}
 
-pub const ODD_VIEW: u8 = 4;
+pub fn scope_of(o: Step) -> Scope
+    ensures { λ r. ⌜ r ≡ scopeOf o ⌝ }
+{
+    match o {
+        Step::Report(p, view) => Scope {
+            actor: p,
+            partner: p,
+            takes: false,
+        },
+        Step::Receive(q, p) => Scope {
+            actor: p,
+            partner: q,
+            takes: true,
+        },
+        Step::Respond(p, q) => Scope {
+            actor: p,
+            partner: q,
+            takes: false,
+        },
+        Step::Crash(p) => Scope {
+            actor: p,
+            partner: p,
+            takes: false,
+        },
+    }
+}
 
-pub const NOTHING_THERE: u8 = 5;
-
-pub const HISTORY_FULL: u8 = 6;
-
-pub const CHANNEL_FULL: u8 = 7;
+// What becomes of the acting process: its variables; what it has recorded from the proposer, where
+// that is not 0; its history's entry at the index, where that is not 0.
+pub struct Change {
+    pub variables: Variables,
+    pub proposer: ProcessId,
+    pub pending: Pending,
+    pub index: GroupIndex,
+    pub entry: u8,
+}
 
 // What a step does once it is permitted: it is refused with this number; or, at 0, the acting
-// process becomes this one and sends the message to every process of the view.
+// process changes so, sends the message to every process of the view, and then stops or not.
 pub struct Plan {
     pub refusal: u8,
-    pub process: Process,
+    pub change: Change,
+    pub stops: bool,
     pub addressees: u8,
     pub message: Message,
 }
 
-// The process becomes x; m goes to each process of the view.
-fn sending(x: Process, to: u8, m: Message) -> Plan
-    ensures { λ r. ⌜ r ≡ sending x to m ⌝ }
+// The variables change.
+fn assigning(x: Variables) -> Change
+    ensures { λ r. ⌜ r ≡ assigning x ⌝ }
+{
+    recording(x, ProcessId(0), Pending::Nothing)
+}
+
+// The variables change, and what is recorded from process q.
+fn recording(x: Variables, q: ProcessId, pending: Pending) -> Change
+    ensures { λ r. ⌜ r ≡ recording x q pending ⌝ }
+{
+    Change {
+        variables: x,
+        proposer: q,
+        pending,
+        index: GroupIndex(0),
+        entry: 0,
+    }
+}
+
+// The history changes at an index.
+fn entering(x: Variables, i: GroupIndex, view: u8) -> Change
+    ensures { λ r. ⌜ r ≡ entering x (i .0) view ⌝ }
+{
+    Change {
+        variables: x,
+        proposer: ProcessId(0),
+        pending: Pending::Nothing,
+        index: i,
+        entry: view,
+    }
+}
+
+// The process changes so; m goes to each process of the view.
+fn sending(change: Change, to: u8, m: Message) -> Plan
+    ensures { λ r. ⌜ r ≡ sending change to m ⌝ }
 {
     Plan {
         refusal: 0,
-        process: x,
+        change,
+        stops: false,
         addressees: to,
         message: m,
     }
 }
 
-// The process becomes x, and nothing is sent.
-fn quietly(x: Process) -> Plan
-    ensures { λ r. ⌜ r ≡ quietly x ⌝ }
+// The process changes so, and nothing is sent.
+fn quietly(change: Change) -> Plan
+    ensures { λ r. ⌜ r ≡ quietly change ⌝ }
 {
-    sending(x, 0, Message::Propose(0, GroupIndex(0)))
+    sending(change, 0, Message::Propose(0, GroupIndex(0)))
 }
 
-pub fn refusing(k: u8, x: Process) -> Plan
+fn refusing(k: u8, x: Variables) -> Plan
     ensures { λ r. ⌜ r ≡ refusing k x ⌝ }
 {
     Plan {
         refusal: k,
-        process: x,
+        change: assigning(x),
+        stops: false,
         addressees: 0,
         message: Message::Propose(0, GroupIndex(0)),
     }
 }
 
-// v_p, Next, PropOut, v* and ack.
-fn assigned(
-    x: Process,
-    view: u8,
-    next: GroupIndex,
-    propout: GroupIndex,
-    proposal: u8,
-    acks: u8,
-) -> Process
-    ensures { λ r. ⌜ r ≡ assigned x view next propout proposal acks ⌝ }
-{
-    let pending = x.pending;
-    let history = x.history;
-    Process {
-        crashed: x.crashed,
-        view,
-        next,
-        propout,
-        proposal,
-        acks,
-        pending,
-        history,
-    }
-}
-
-fn with_view(x: Process, view: u8) -> Process
+fn with_view(x: Variables, view: u8) -> Variables
     ensures { λ r. ⌜ r ≡ withView x view ⌝ }
 {
-    let next = x.next;
-    let propout = x.propout;
-    assigned(x, view, next, propout, x.proposal, x.acks)
+    let mut y = x;
+    y.view = view;
+    y
 }
 
-fn with_next(x: Process, next: GroupIndex) -> Process
+fn with_next(x: Variables, next: GroupIndex) -> Variables
     ensures { λ r. ⌜ r ≡ withNext x (next .0) ⌝ }
 {
-    let propout = x.propout;
-    assigned(x, x.view, next, propout, x.proposal, x.acks)
+    let mut y = x;
+    y.next = next;
+    y
 }
 
-fn with_acks(x: Process, acks: u8) -> Process
+fn with_acks(x: Variables, acks: u8) -> Variables
     ensures { λ r. ⌜ r ≡ withAcks x acks ⌝ }
 {
-    let next = x.next;
-    let propout = x.propout;
-    assigned(x, x.view, next, propout, x.proposal, acks)
+    let mut y = x;
+    y.acks = acks;
+    y
 }
 
 // The view becomes the local and the last proposed view, proposed at index i.
-fn proposing(x: Process, view: u8, i: GroupIndex) -> Process
+fn proposing(x: Variables, view: u8, i: GroupIndex) -> Variables
     ensures { λ r. ⌜ r ≡ proposing x view (i .0) ⌝ }
 {
-    let next = x.next;
-    assigned(x, view, next, i, view, 0)
+    let mut y = x;
+    y.view = view;
+    y.propout = i;
+    y.proposal = view;
+    y.acks = 0;
+    y
 }
 
 // The local view is proposed again, at index i.
-fn reproposing(x: Process, i: GroupIndex) -> Process
+fn reproposing(x: Variables, i: GroupIndex) -> Variables
     ensures { λ r. ⌜ r ≡ reproposing x (i .0) ⌝ }
 {
-    let next = x.next;
-    assigned(x, x.view, next, i, x.proposal, 0)
+    let mut y = x;
+    y.propout = i;
+    y.acks = 0;
+    y
 }
 
 // First guarded command: process p of n is told a view.
-pub fn report_plan(n: u8, p: ProcessId, view: u8, x: Process) -> Plan
+pub fn report_plan(n: u8, p: ProcessId, view: u8, x: Variables) -> Plan
     ensures { λ r. ⌜ r ≡ reportPlan n (p .0) view x ⌝ }
 {
     if and(within(n, view), has(view, p)) {
         if least(view).0 == p.0 {
             if x.propout.0 < 32 {
                 let i = GroupIndex(x.propout.0 + 1);
-                sending(proposing(x, view, i), view, Message::Propose(view, i))
+                sending(
+                    assigning(proposing(x, view, i)),
+                    view,
+                    Message::Propose(view, i),
+                )
             } else {
                 refusing(HISTORY_FULL, x)
             }
         } else {
-            quietly(with_view(x, view))
+            quietly(assigning(with_view(x, view)))
         }
     } else {
         refusing(ODD_VIEW, x)
@@ -156,7 +229,7 @@ pub fn report_plan(n: u8, p: ProcessId, view: u8, x: Process) -> Plan
 }
 
 // The mark of an Acc from process q for index i, where PropOut is that index.
-fn marked(q: ProcessId, x: Process, i: GroupIndex) -> Process
+fn marked(q: ProcessId, x: Variables, i: GroupIndex) -> Variables
     ensures { λ r. ⌜ r ≡ pick (eqb (x .propout .0) (i .0)) (withAcks x (with (x .acks) (q .0))) x ⌝ }
 {
     if x.propout.0 == i.0 {
@@ -167,49 +240,48 @@ fn marked(q: ProcessId, x: Process, i: GroupIndex) -> Process
 }
 
 // After the mark: Commit, once all of the last proposed view have acknowledged.
-fn committing_plan(x: Process) -> Plan
+fn committing_plan(x: Variables) -> Plan
     ensures { λ r. ⌜ r ≡ committingPlan x ⌝ }
 {
     let view = x.proposal;
     if and(view != 0, subset(view, x.acks)) {
         let i = x.propout;
-        sending(with_acks(x, 0), view, Message::Commit(view, i))
+        sending(assigning(with_acks(x, 0)), view, Message::Commit(view, i))
     } else {
-        quietly(x)
+        quietly(assigning(x))
     }
 }
 
 // Process p takes the message m of process q.
-fn message_plan(q: ProcessId, p: ProcessId, x: Process, m: Message) -> Plan
-    ensures { λ r. ⌜ r ≡ messagePlan (q .0) (p .0) x m ⌝ }
+fn message_plan(q: ProcessId, p: ProcessId, x: Variables, m: Message) -> Plan
+    ensures { λ r. ⌜ r ≡ messagePlan q (p .0) x m ⌝ }
 {
     match m {
-        Message::Propose(v, i) => quietly(with_pending(x, q, Pending::Proposal(v, i))),
+        Message::Propose(v, i) => quietly(recording(x, q, Pending::Proposal(v, i))),
         Message::Retry(old, new) => {
             let view = x.view;
             if and(x.propout.0 == old.0, least(view).0 == p.0) {
                 if new.0 <= 32 {
-                    sending(reproposing(x, new), view, Message::Propose(view, new))
+                    sending(
+                        assigning(reproposing(x, new)),
+                        view,
+                        Message::Propose(view, new),
+                    )
                 } else {
                     refusing(HISTORY_FULL, x)
                 }
             } else {
-                quietly(x)
+                quietly(assigning(x))
             }
         }
         Message::Acc(i) => committing_plan(marked(q, x, i)),
-        Message::Commit(v, i) => {
-            let h = x.history;
-            let mut y = x;
-            y.history = system::with_entry(h, i, v);
-            quietly(y)
-        }
+        Message::Commit(v, i) => quietly(entering(x, i, v)),
     }
 }
 
 // Second guarded command: process p takes the oldest message of process q, if one waits.
-pub fn receive_plan(q: ProcessId, p: ProcessId, x: Process, front: Front) -> Plan
-    ensures { λ r. ⌜ r ≡ receivePlan (q .0) (p .0) x front ⌝ }
+pub fn receive_plan(q: ProcessId, p: ProcessId, x: Variables, front: Front) -> Plan
+    ensures { λ r. ⌜ r ≡ receivePlan q (p .0) x front ⌝ }
 {
     match front {
         Front::Nothing => refusing(NOTHING_THERE, x),
@@ -218,10 +290,9 @@ pub fn receive_plan(q: ProcessId, p: ProcessId, x: Process, front: Front) -> Pla
 }
 
 // Third guarded command: the proposal recorded from process q is answered.
-pub fn respond_plan(q: ProcessId, x: Process) -> Plan
-    ensures { λ r. ⌜ r ≡ respondPlan (q .0) x ⌝ }
+pub fn respond_plan(q: ProcessId, x: Variables, pending: Pending) -> Plan
+    ensures { λ r. ⌜ r ≡ respondPlan q x pending ⌝ }
 {
-    let pending = system::pending_at(x, q);
     match pending {
         Pending::Nothing => refusing(NOTHING_THERE, x),
         Pending::Proposal(v, i) => {
@@ -229,14 +300,14 @@ pub fn respond_plan(q: ProcessId, x: Process) -> Plan
             if v == x.view {
                 if i.0 < next.0 {
                     sending(
-                        with_pending(x, q, Pending::Nothing),
+                        recording(x, q, Pending::Nothing),
                         with(0, q),
                         Message::Retry(i, next),
                     )
                 } else if i.0 <= 32 {
-                    let y = with_pending(x, q, Pending::Nothing);
+                    let y = with_next(x, GroupIndex(i.0 + 1));
                     sending(
-                        with_next(y, GroupIndex(i.0 + 1)),
+                        recording(y, q, Pending::Nothing),
                         with(0, q),
                         Message::Acc(i),
                     )
@@ -251,11 +322,15 @@ pub fn respond_plan(q: ProcessId, x: Process) -> Plan
     }
 }
 
-// A stop: the process has crashed, and sends nothing.
-pub fn crash_plan(x: Process) -> Plan
+// A stop: nothing changes but that the process stops, and nothing is sent.
+pub fn crash_plan(x: Variables) -> Plan
     ensures { λ r. ⌜ r ≡ crashPlan x ⌝ }
 {
-    let mut next = x;
-    next.crashed = true;
-    quietly(next)
+    Plan {
+        refusal: 0,
+        change: assigning(x),
+        stops: true,
+        addressees: 0,
+        message: Message::Propose(0, GroupIndex(0)),
+    }
 }

@@ -15,7 +15,7 @@ use Rattle.system.specs.declared.Process.{Process}
 use Rattle.system.specs.declared.System.{System}
 use Rattle.system.specs.System.{processAt}
 use Rattle.print.specs.Text.{bytes, textUpTo, digits, decimal, memberText, viewText}
-use Rattle.print.specs.Print.{numberedLine, entryText, entryOf, historyText, unitLine, unitOf, unitLines}
+use Rattle.print.specs.Print.{numberedLine, entryText, entryTextAt, historyText, unitLine, unitOf, unitLines}
 
 record AtMost (m : ℕ) (l : List ℕ) : Type 0 where
   bytes-are : length l ≤ m
@@ -105,8 +105,8 @@ unfolding entryText
 entry-length i v h = either (eqb v 0) none (both (both (both (words .space) (few-digits 1 i h)) (words .equals)) (view-length v))
 
 history-length : (h : History) → AtMost 384 (historyText h)
-unfolding historyText entryOf
-history-length h = up-to 32 12 (entryOf h) (λ i l. entry-length i _ (omega arith))
+unfolding historyText entryTextAt
+history-length h = up-to 32 12 (entryTextAt h) (λ i l. entry-length i _ (omega arith))
 
 unit-length : (k : ℕ) (p : Process) → k < 10 → AtMost 425 (unitLine k p)
 unfolding unitLine
@@ -114,8 +114,8 @@ unit-length k p h =
     both
     (both
     (both
-    (both (both (both (words .unit) (few-digits 0 k h)) (either (p .crashed) (words .stopped) (words .live))) (words .next))
-    (twenty-digits (p .next .0)))
+    (both (both (both (words .unit) (few-digits 0 k h)) (either (p .variables .crashed) (words .stopped) (words .live))) (words .next))
+    (twenty-digits (p .variables .next .0)))
     (history-length (p .history)))
     (words .feed)
 

@@ -11,13 +11,9 @@ use lib.Dec.{ltb}
 use lib.ListN.{length, getD, take, drop, set, length-set}
 use lib.Seq.{take-suc, sets, sets-eq, take-append-seam}
 use Rattle.view.specs.Logic.{pick, isOneOf}
-use Rattle.view.proofs.Laws.{at-next, and-left, one-of}
+use Rattle.view.proofs.Laws.{and-left, one-of}
 use Rattle.view.specs.View.{has}
-use Rattle.system.specs.declared.Process.{Process}
-use Rattle.system.specs.declared.System.{System}
-use Rattle.system.specs.System.{noProcess, processAt}
-use Rattle.print.specs.Text.{textUpTo, digits}
-use Rattle.print.specs.Print.{unitLine, unitOf}
+use Rattle.print.specs.Text.{textUpTo, digit, digits}
 use Rattle.print.specs.Page.{Page, page, typedByte, typed}
 
 -- ---- one byte
@@ -51,12 +47,6 @@ pub text-again : (o p q : Page) (i : ℕ) (f : ℕ → List ℕ) → p ≡ typed
     → q ≡ typed o (textUpTo (i + 1) f)
 unfolding textUpTo
 text-again o p q i f e g = rw add-one (in-turn o p q _ _ e (rw add-one at g))
-
-pub unit-again : (o p q : Page) (i : ℕ) (s : System) (d : Process) → i < length (s .processes)
-    → p ≡ typed o (textUpTo i (unitOf s)) → q ≡ typed p (unitLine (i + 1) (getD (s .processes) i d))
-    → q ≡ typed o (textUpTo (i + 1) (unitOf s))
-unfolding unitOf processAt
-unit-again o p q i s d h e g = text-again o p q i (unitOf s) e (rw (← at-next (s .processes) i d noProcess h) g)
 
 -- ---- the buffer keeps its length
 byte-keeps-length : (p : Page) (x : ℕ) → length (typedByte p x .buffer) ≡ length (p .buffer)
@@ -125,15 +115,16 @@ pub no-digits : (n k : ℕ) → n ≡ 0 → digits n k ≡ []
 unfolding digits
 no-digits n k e = rw e
 
-pub one-digit : (n k : ℕ) → (n ≡ 0 → ⊥) → k < 10 → digits n k ≡ (48 + k) ∷ []
+pub first-digit : (o q : Page) (n k : ℕ) → 0 < n → k < 10 → q ≡ typed o (digit (k % 10)) → q ≡ typed o (digits n k)
 unfolding digits pick
-one-digit zero k h l = absurd (h refl)
-one-digit (suc n) k h l = rw (lt-ltb k 10 l)
+first-digit o q zero k h l e = absurd (omega arith)
+first-digit o q (suc n) k h l e = let same : k % 10 ≡ k = omega arith in rw (lt-ltb k 10 l) (rw same at e)
 
-pub more-digits : (n k : ℕ) → (n ≡ 0 → ⊥) → 10 ≤ k → digits n k ≡ digits (n - 1) (k / 10) ++ ((48 + k % 10) ∷ [])
+pub last-digit : (o p q : Page) (n k : ℕ) → 0 < n → 10 ≤ k → p ≡ typed o (digits (n - 1) (k / 10)) → q ≡ typed p (digit (k % 10))
+    → q ≡ typed o (digits n k)
 unfolding digits pick
-more-digits zero k h l = absurd (h refl)
-more-digits (suc n) k h l = rw (le-ltb k 10 l, sub-one)
+last-digit o p q zero k h l e f = absurd (omega arith)
+last-digit o p q (suc n) k h l e f = rw (le-ltb k 10 l) (in-turn o p q _ _ (rw sub-one at e) f)
 
 -- ---- views
 pub small-member : (v k : ℕ) → has v k ≡ true → k ≤ 8

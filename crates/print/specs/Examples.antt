@@ -6,7 +6,7 @@ use mathlib.Core.List.{List, [], _∷_}
 use Rattle.system.specs.declared.History.{History}
 use Rattle.system.specs.declared.Process.{Process}
 use Rattle.system.specs.declared.System.{System}
-use Rattle.system.specs.Process.{noEntries, withEntry}
+use Rattle.system.specs.Process.{noEntries, withEntry, index}
 use Rattle.system.specs.System.{noProcess, withProcess}
 use Rattle.system.specs.Fresh.{freshSystem}
 use Rattle.print.specs.Text.{bytes, decimal}
@@ -16,12 +16,7 @@ use Rattle.print.specs.Print.{numberedLine, unitLines}
 abbrev process : Bool → ℕ → History → Process
 process crashed next h =
     record {
-      crashed = crashed;
-      view = 0;
-      next = record { 0 = next };
-      propout = record { 0 = 0 };
-      proposal = 0;
-      acks = 0;
+      variables = record { crashed = crashed; view = 0; next = index next; propout = index 0; proposal = 0; acks = 0 };
       pending = noProcess .pending;
       history = h;
     }

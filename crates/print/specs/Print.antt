@@ -19,19 +19,19 @@ numberedLine line number = decimal line ++ bytes " " ++ decimal number ++ bytes 
 unfoldable pub entryText : ℕ → ℕ → List ℕ
 entryText i v = pick (eqb v 0) [] (bytes " " ++ decimal i ++ bytes "=" ++ viewText v)
 
-unfoldable pub entryOf : History → ℕ → List ℕ
-entryOf h i = entryText i (entryAt h i)
+unfoldable pub entryTextAt : History → ℕ → List ℕ
+entryTextAt h i = entryText i (entryAt h i)
 
 unfoldable pub historyText : History → List ℕ
-historyText h = textUpTo 32 (entryOf h)
+historyText h = textUpTo 32 (entryTextAt h)
 
 unfoldable pub unitLine : ℕ → Process → List ℕ
 unitLine k p =
     bytes "unit "
     ++ decimal k
-    ++ pick (p .crashed) (bytes " stopped") (bytes " live")
+    ++ pick (p .variables .crashed) (bytes " stopped") (bytes " live")
     ++ bytes " next "
-    ++ decimal (p .next .0)
+    ++ decimal (p .variables .next .0)
     ++ historyText (p .history)
     ++ bytes "\n"
 

@@ -1,15 +1,17 @@
 // What is printed: each function types a text from a place of a lent buffer on, and returns the
 // place after it. A byte for which there is no room is dropped.
 ghost use mathlib.Core.Path.{_≡_};
-ghost use Prim.Native.Nat.{min};
+ghost use Prim.Native.Nat.{min, _%_};
 ghost use mathlib.Core.List.{[], _∷_};
 ghost use Rattle.view.specs.Logic.{pick};
-ghost use Rattle.print.specs.Text.{bytes, digits, decimal, memberText, viewText};
+ghost use Rattle.system.specs.System.{processAt};
+ghost use Rattle.image.specs.Image.{systemIn};
+ghost use Rattle.print.specs.Text.{bytes, digit, digits, decimal, memberText, viewText};
 ghost use Rattle.print.specs.Page.{page, typed};
 ghost use Rattle.print.specs.Print.{numberedLine, entryText, historyText, unitLine, unitLines};
-use system::History;
-use system::Process;
-use system::System;
+use image::entry_at;
+use image::size;
+use image::variables_at;
 use view::GroupIndex;
 use view::ProcessId;
 
@@ -36,6 +38,13 @@ pub fn put_text(out: &mut [u8], at: usize, text: &[u8]) -> usize
     next
 }
 
+// The last digit of a number.
+fn put_digit(out: &mut [u8], at: usize, k: usize) -> usize
+    ensures { λ r. ⌜ page (now (out .exit)) r ≡ typed (page (now (out .entry)) at) (digit (k % 10)) ⌝ }
+{
+    put_byte(out, at, b'0' + (k % 10) as u8)
+}
+
 // The last n digits of a number.
 fn put_digits(out: &mut [u8], at: usize, n: u8, k: usize) -> usize
     ensures { λ r. ⌜ page (now (out .exit)) r ≡ typed (page (now (out .entry)) at) (digits n k) ⌝ }
@@ -43,22 +52,40 @@ fn put_digits(out: &mut [u8], at: usize, n: u8, k: usize) -> usize
     if n == 0 {
         at
     } else if k < 10 {
-        put_byte(out, at, b'0' + k as u8)
+        put_digit(out, at, k)
     } else {
         let next = put_digits(out, at, n - 1, k / 10);
-        put_byte(out, next, b'0' + (k % 10) as u8)
+        put_digit(out, next, k)
     }
 }
 
-// A number in decimal.
+// A number in decimal. The last four digits are typed one by one: few numbers have more.
 pub fn put_decimal(out: &mut [u8], at: usize, k: usize) -> usize
     ensures { λ r. ⌜ page (now (out .exit)) r ≡ typed (page (now (out .entry)) at) (decimal k) ⌝ }
 {
-    // Most numbers that are printed have one digit.
+    let tens = k / 10;
+    let hundreds = tens / 10;
+    let thousands = hundreds / 10;
     if k < 10 {
-        put_byte(out, at, b'0' + k as u8)
+        put_digit(out, at, k)
+    } else if tens < 10 {
+        let a = put_digit(out, at, tens);
+        put_digit(out, a, k)
+    } else if hundreds < 10 {
+        let a = put_digit(out, at, hundreds);
+        let b = put_digit(out, a, tens);
+        put_digit(out, b, k)
+    } else if thousands < 10 {
+        let a = put_digit(out, at, thousands);
+        let b = put_digit(out, a, hundreds);
+        let c = put_digit(out, b, tens);
+        put_digit(out, c, k)
     } else {
-        put_digits(out, at, 20, k)
+        let a = put_digits(out, at, 16, thousands / 10);
+        let b = put_digit(out, a, thousands);
+        let c = put_digit(out, b, hundreds);
+        let d = put_digit(out, c, tens);
+        put_digit(out, d, k)
     }
 }
 
@@ -100,16 +127,15 @@ fn put_entry(out: &mut [u8], at: usize, i: GroupIndex, view: u8) -> usize
     }
 }
 
-// Every position of a history that is not empty.
-fn put_history(out: &mut [u8], at: usize, h: History) -> usize
-    ensures { λ r. ⌜ page (now (out .exit)) r ≡ typed (page (now (out .entry)) at) (historyText h) ⌝ }
+// Every position of a process's history that is not empty.
+fn put_history(out: &mut [u8], at: usize, image: &[u8], p: ProcessId) -> usize
+    ensures { λ r. ⌜ page (now (out .exit)) r ≡ typed (page (now (out .entry)) at) (historyText (processAt (systemIn (now (image .entry))) (p .0) .history)) ⌝ }
 {
     let mut next = at;
     let mut i: u8 = 0;
     while i < 32 {
         i += 1;
-        let view = system::entry_at(h, GroupIndex(i));
-        next = put_entry(out, next, GroupIndex(i), view);
+        next = put_entry(out, next, GroupIndex(i), entry_at(image, p, GroupIndex(i)));
     }
     next
 }
@@ -125,16 +151,16 @@ fn put_state(out: &mut [u8], at: usize, crashed: bool) -> usize
 }
 
 // The line of one process.
-pub fn put_unit(out: &mut [u8], at: usize, k: ProcessId, p: Process) -> usize
-    ensures { λ r. ⌜ page (now (out .exit)) r ≡ typed (page (now (out .entry)) at) (unitLine (k .0) p) ⌝ }
+fn put_unit(out: &mut [u8], at: usize, image: &[u8], p: ProcessId) -> usize
+    ensures { λ r. ⌜ page (now (out .exit)) r ≡ typed (page (now (out .entry)) at) (unitLine (p .0) (processAt (systemIn (now (image .entry))) (p .0))) ⌝ }
 {
+    let x = variables_at(image, p);
     let a = put_text(out, at, b"unit ");
-    let b = put_decimal(out, a, k.0 as usize);
-    let c = put_state(out, b, p.crashed);
+    let b = put_decimal(out, a, p.0 as usize);
+    let c = put_state(out, b, x.crashed);
     let d = put_text(out, c, b" next ");
-    let e = put_decimal(out, d, p.next.0 as usize);
-    let history = p.history;
-    let f = put_history(out, e, history);
+    let e = put_decimal(out, d, x.next.0 as usize);
+    let f = put_history(out, e, image, p);
     put_text(out, f, b"\n")
 }
 
@@ -144,18 +170,16 @@ fn lesser(a: u8, b: u8) -> u8
     if a < b { a } else { b }
 }
 
-// The lines of all processes.
-pub fn put_units(out: &mut [u8], at: usize, s: System) -> usize
-    ensures { λ r. ⌜ page (now (out .exit)) r ≡ typed (page (now (out .entry)) at) (unitLines s) ⌝ }
+// The lines of all processes of the system that an image holds.
+pub fn put_units(out: &mut [u8], at: usize, image: &[u8]) -> usize
+    ensures { λ r. ⌜ page (now (out .exit)) r ≡ typed (page (now (out .entry)) at) (unitLines (systemIn (now (image .entry)))) ⌝ }
 {
-    let n = lesser(8, s.n);
+    let n = lesser(8, size(image));
     let mut next = at;
     let mut i: u8 = 0;
     while i < n {
-        let k = i as usize;
-        let p = s.processes[k];
         i += 1;
-        next = put_unit(out, next, ProcessId(i), p);
+        next = put_unit(out, next, image, ProcessId(i));
     }
     next
 }

@@ -8,44 +8,33 @@ use lib.ListN.{length, length-append}
 use Rattle.view.proofs.Laws.{by-pick}
 use Rattle.system.specs.declared.System.{System}
 use Rattle.system.specs.declared.Outcome.{Outcome}
-use Rattle.step.specs.declared.Step.{Step}
-use Rattle.step.specs.Step.{stepped}
-use Rattle.agreement.proofs.Outcomes.{number-to-7}
 use Rattle.print.specs.Text.{bytes}
 use Rattle.print.specs.Print.{numberedLine}
 use Rattle.print.proofs.Bounds.{numbered-length, units-length}
 use Rattle.sheet.specs.declared.parse.Line.{Line}
-use Rattle.sheet.specs.declared.parse.Line.the-variants.{Bad, Fresh, Report, Receive, Respond, Crash}
+use Rattle.sheet.specs.declared.parse.Line.the-variants.{Bad, Fresh, Step}
 use Rattle.sheet.specs.Lines.{linesOf}
 use Rattle.sheet.specs.Parse.{parsed}
 use Rattle.sheet.proofs.Laws.{few-lines}
-use Rattle.run.specs.Output.{answered, noted, answersFrom, badFrom, startedBy, linesOutput, output}
+use Rattle.run.proofs.Numbers.{number-to-7}
+use Rattle.run.specs.Output.{lineOutcome, printedThen, printedFrom, badFrom, startedBy, linesOutput, output}
 
 -- ---- every number is one digit
-abbrev Small : Outcome → Type 0
-Small o = o .refusal < 10
-
-stepped-small : (s : System) (o : Step) → Small (stepped s o)
-stepped-small s o = omega (arith, number-to-7 s o)
-
-answered-small : (s : System) (l : Line) → Small (answered s l)
-unfolding answered
-answered-small s Bad = omega arith
-answered-small s (Fresh n) = omega arith
-answered-small s (Report p v) = stepped-small s _
-answered-small s (Receive q p) = stepped-small s _
-answered-small s (Respond p q) = stepped-small s _
-answered-small s (Crash p) = stepped-small s _
+small-number : (s : System) (l : Line) → lineOutcome s l .refusal < 10
+unfolding lineOutcome
+small-number s Bad = omega arith
+small-number s (Fresh n) = omega arith
+small-number s (Step o) = omega (arith, number-to-7 s o)
 
 -- ---- line by line
-answers-length : (k : ℕ) (s : System) (ls : List (List ℕ)) → k + length ls < 100000 → length (answersFrom k s ls) ≤ length ls * 8 + 3400
-unfolding answersFrom noted
-answers-length k s [] h = omega (arith, units-length s)
-answers-length k s (l ∷ ls) h = go (answered s (parsed l)) (answered-small s (parsed l)) (λ t. answers-length (suc k) t ls (omega arith))
+printed-length : (k : ℕ) (s : System) (ls : List (List ℕ)) → k + length ls < 100000 → length (printedFrom k s ls) ≤ length ls * 8 + 3400
+unfolding printedFrom printedThen
+printed-length k s [] h = omega (arith, units-length s)
+printed-length k s (l ∷ ls) h = go (lineOutcome s (parsed l)) (small-number s (parsed l)) (λ t. printed-length (suc k) t ls (omega arith))
   where
-    go : (o : Outcome) → Small o → ((t : System) → length (answersFrom (suc k) t ls) ≤ length ls * 8 + 3400) → length (noted k o (λ t. answersFrom (suc k) t ls)) ≤ suc (length ls) * 8 + 3400
+    go : (o : Outcome) → o .refusal < 10 → ((t : System) → length (printedFrom (suc k) t ls) ≤ length ls * 8 + 3400) → length (printedThen k o (λ t. printedFrom (suc k) t ls)) ≤ suc (length ls) * 8 + 3400
     go o small rest =
-        rw (length-append (numberedLine k (o .refusal)) (answersFrom (suc k) (o .system) ls))
+        rw (length-append (numberedLine k (o .refusal)) (printedFrom (suc k) (o .system) ls))
         (omega (arith, numbered-length k (o .refusal) (omega arith) small, rest (o .system)))
 
 bad-length : (k : ℕ) (ls : List (List ℕ)) → k + length ls < 100000 → length (badFrom k ls) ≤ length ls * 8
@@ -57,7 +46,7 @@ started-length : (o : Outcome) (ls all : List (List ℕ)) → length ls ≤ leng
 unfolding startedBy
 started-length o ls all h most =
     by-pick (λ (t : List ℕ). length t ≤ 483400) (eqb (o .refusal) 0) _ _
-    (λ e. omega (arith, answers-length 2 (o .system) ls (omega arith)))
+    (λ e. omega (arith, printed-length 2 (o .system) ls (omega arith)))
     (λ e. omega (arith, bad-length 1 all (omega arith)))
 
 lines-length : (ls : List (List ℕ)) → length ls ≤ 60000 → length (linesOutput ls) ≤ 483400

@@ -1,3 +1,3 @@
+pub mod Numbers
 pub mod Bounds
-pub mod Claims
 pub mod Laws

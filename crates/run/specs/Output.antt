@@ -12,32 +12,28 @@ use Rattle.system.specs.declared.System.{System}
 use Rattle.system.specs.declared.Outcome.{Outcome}
 use Rattle.system.specs.System.{refused}
 use Rattle.system.specs.Fresh.{freshOf}
-use Rattle.step.specs.declared.Step.the-variants as Step
 use Rattle.step.specs.Step.{stepped}
 use Rattle.print.specs.Text.{bytes}
 use Rattle.print.specs.Print.{numberedLine, unitLines}
 use Rattle.sheet.specs.declared.parse.Line.{Line}
-use Rattle.sheet.specs.declared.parse.Line.the-variants.{Bad, Fresh, Report, Receive, Respond, Crash}
+use Rattle.sheet.specs.declared.parse.Line.the-variants.{Bad, Fresh, Step}
 use Rattle.sheet.specs.Lines.{linesOf}
 use Rattle.sheet.specs.Parse.{parsed}
 
 -- what a line after the first does: its step; or it is refused, with 8
-unfoldable pub answered : System → Line → Outcome
-answered s Bad = refused 8 s
-answered s (Fresh n) = refused 8 s
-answered s (Report p v) = stepped s (Step.Report p v)
-answered s (Receive q p) = stepped s (Step.Receive q p)
-answered s (Respond p q) = stepped s (Step.Respond p q)
-answered s (Crash p) = stepped s (Step.Crash p)
+unfoldable pub lineOutcome : System → Line → Outcome
+lineOutcome s Bad = refused 8 s
+lineOutcome s (Fresh n) = refused 8 s
+lineOutcome s (Step o) = stepped s o
 
 -- the number of line k, and what is printed after it
-unfoldable pub noted : ℕ → Outcome → (System → List ℕ) → List ℕ
-noted k o rest = numberedLine k (o .refusal) ++ rest (o .system)
+unfoldable pub printedThen : ℕ → Outcome → (System → List ℕ) → List ℕ
+printedThen k o rest = numberedLine k (o .refusal) ++ rest (o .system)
 
 -- the lines from number k on, of a sheet that runs on system s
-unfoldable pub answersFrom : ℕ → System → List (List ℕ) → List ℕ
-answersFrom k s [] = unitLines s
-answersFrom k s (l ∷ ls) = noted k (answered s (parsed l)) (λ t. answersFrom (suc k) t ls)
+unfoldable pub printedFrom : ℕ → System → List (List ℕ) → List ℕ
+printedFrom k s [] = unitLines s
+printedFrom k s (l ∷ ls) = printedThen k (lineOutcome s (parsed l)) (λ t. printedFrom (suc k) t ls)
 
 -- the lines from number k on, after a bad first line
 unfoldable pub badFrom : ℕ → List (List ℕ) → List ℕ
@@ -48,14 +44,11 @@ badFrom k (l ∷ ls) = numberedLine k 8 ++ badFrom (suc k) ls
 unfoldable pub sizeIn : Line → ℕ
 sizeIn (Fresh n) = n
 sizeIn Bad = 0
-sizeIn (Report p v) = 0
-sizeIn (Receive q p) = 0
-sizeIn (Respond p q) = 0
-sizeIn (Crash p) = 0
+sizeIn (Step o) = 0
 
 -- a good first line starts a fresh system; after any other all lines are bad
 unfoldable pub startedBy : Outcome → List (List ℕ) → List (List ℕ) → List ℕ
-startedBy o ls all = pick (eqb (o .refusal) 0) (answersFrom 2 (o .system) ls) (badFrom 1 all)
+startedBy o ls all = pick (eqb (o .refusal) 0) (printedFrom 2 (o .system) ls) (badFrom 1 all)
 
 unfoldable pub linesOutput : List (List ℕ) → List ℕ
 linesOutput [] = []

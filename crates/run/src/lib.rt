@@ -1,21 +1,19 @@
 // A whole sheet: from its bytes to the output's bytes.
 ghost use Prim.Native.Nat.{_≤_};
 ghost use mathlib.Core.Path.{_≡_};
+ghost use mathlib.Core.Bool.{true};
 ghost use mathlib.Core.List.{_++_};
 ghost use lib.ListN.{length, drop};
-ghost use lib.Dec.{eqb};
-ghost use Rattle.view.specs.Logic.{pick};
-ghost use Rattle.agreement.proofs.SoundSteps.{Valid};
+ghost use Rattle.view.specs.Logic.{isOneOf};
+ghost use Rattle.system.specs.Fresh.{freshSystem};
+ghost use Rattle.sound.specs.Sound.{soundSystem};
+ghost use Rattle.image.specs.Image.{imageWidth, systemIn};
+ghost use Rattle.engine.specs.Engine.{Gives};
 ghost use Rattle.print.specs.Page.{page, typed};
 ghost use Rattle.sheet.specs.Lines.{linesOf};
-ghost use Rattle.run.specs.Order.{orderOf};
-ghost use Rattle.run.specs.Output.{answersFrom, badFrom, sizeIn, output};
-use parts::checked;
-use parts::left;
-use parts::offset;
-use parts::planned;
-use parts::scope_of;
-use parts::turns;
+ghost use Rattle.run.specs.Output.{lineOutcome, printedFrom, badFrom, sizeIn, output};
+use engine::attempt;
+use fresh::put_fresh;
 use print::put_numbered;
 use print::put_text;
 use print::put_units;
@@ -23,12 +21,8 @@ use sheet::lines::Found;
 use sheet::parse::Line;
 use sheet::parse::parse;
 use sheet::reader::read_line;
-use step::Step;
-use system::System;
-use view::ProcessId;
+use system::refusal::BAD_LINE;
 use view::and;
-use view::has;
-use view::or;
 
 // A sheet of more bytes is a long one.
 pub const SHEET_LIMIT: usize = 60_000;
@@ -36,127 +30,38 @@ pub const SHEET_LIMIT: usize = 60_000;
 // Room enough for what is printed for any sheet.
 pub const OUTPUT_LIMIT: usize = 483_400;
 
-// Refusal 8, "bad line".
-pub const BAD_LINE: u8 = 8;
-
-// The step that a line after the first asks for. A bad line has a refusal of its own, and the step
-// beside it is refused too and changes nothing.
-struct Order {
-    refusal: u8,
-    step: Step,
-}
-
-fn order_of(line: Line) -> Order
-    ensures { λ r. ⌜ r ≡ orderOf line ⌝ }
+// A line after the first, on an image whose system is sound: its step is done, or it is refused.
+fn run_line(image: &mut [u8], line: Line) -> u8
+    requires { ⌜ soundSystem (systemIn (now image)) ≡ true ⌝ }
+    ensures { λ r. ⌜ (Gives (lineOutcome (systemIn (now (image .entry))) line) (now (image .entry)) r (now (image .exit))) × (soundSystem (systemIn (now (image .exit))) ≡ true) ⌝ }
 {
-    let step = Step::Report(ProcessId(0), 0);
     match line {
-        Line::Bad => Order {
-            refusal: BAD_LINE,
-            step,
-        },
-        Line::Fresh(_) => Order {
-            refusal: BAD_LINE,
-            step,
-        },
-        Line::Report(p, view) => Order {
-            refusal: 0,
-            step: Step::Report(p, view),
-        },
-        Line::Receive(q, p) => Order {
-            refusal: 0,
-            step: Step::Receive(q, p),
-        },
-        Line::Respond(p, q) => Order {
-            refusal: 0,
-            step: Step::Respond(p, q),
-        },
-        Line::Crash(p) => Order {
-            refusal: 0,
-            step: Step::Crash(p),
-        },
+        Line::Bad => BAD_LINE,
+        Line::Fresh(n) => BAD_LINE,
+        Line::Step(o) => attempt(image, o),
     }
 }
 
-// The line's own refusal; or else its step's.
-fn number(line: u8, step: u8) -> u8
-    ensures { λ r. ⌜ r ≡ pick (eqb line 0) step line ⌝ }
+// The lines from a place on, of a sheet that runs on the system of an image, which is sound.
+fn run_lines(sheet: &[u8], from: usize, image: &mut [u8], out: &mut [u8]) -> usize
+    requires { ⌜ (soundSystem (systemIn (now image)) ≡ true) × (length (now sheet) ≤ 60000) ⌝ }
+    ensures { λ r. ⌜ page (now (out .exit)) r ≡ typed (page (now (out .entry)) 0) (printedFrom 2 (systemIn (now (image .entry))) (linesOf (drop from (now (sheet .entry))))) ⌝ }
 {
-    if line == 0 { step } else { line }
-}
-
-// The lines from a place on, of a sheet that runs on system s. Each step is done in parts, where the
-// system stands: a call that takes the system would copy it. The system is sound throughout, so
-// that it is not tested.
-fn answers(sheet: &[u8], from: usize, s: System, out: &mut [u8]) -> usize
-    requires { ⌜ Valid s × (length (now sheet) ≤ 60000) ⌝ }
-    ensures { λ r. ⌜ page (now (out .exit)) r ≡ typed (page (now (out .entry)) 0) (answersFrom 2 s (linesOf (drop from (now (sheet .entry))))) ⌝ }
-{
-    let mut system = s;
     let mut at = from;
     let mut line: usize = 2;
     let mut end = 0;
     loop {
         match read_line(sheet, at) {
             Found::End => {
-                return put_units(out, end, system);
+                return put_units(out, end, image);
             }
-            Found::Line {
+            Found::Span {
                 start,
                 end: stop,
                 next,
             } => {
-                let order = order_of(parse(&sheet[start..stop]));
-                let o = order.step;
-                let scope = scope_of(o);
-                let p = scope.actor;
-                let q = scope.partner;
-                let i = offset(p);
-                let k = 8 * offset(q) + i;
-                let x = system.processes[i];
-                let c = system.channels[k];
-                let a = planned(system.n, o, x, c);
-                // Room is counted once the taken message is off.
-                system.channels[k] = left(scope.takes, c);
-                let asked = a.addressees;
-                let asks = turns(asked != 0);
-                let mut room = true;
-                let mut h: u8 = 0;
-                while h < asks {
-                    let len = system.channels[8 * i + (h as usize)].len;
-                    let crashed = system.processes[h as usize].crashed;
-                    h += 1;
-                    let takes = or(crashed, len < 8);
-                    room = and(room, or(!has(asked, ProcessId(h)), takes));
-                }
-                // The plan in the end: a refused one leaves the process and the channel as they were.
-                let b = checked(a, room, x);
-                let done = b.refusal == 0;
-                system.channels[k] = left(and(done, scope.takes), c);
-                let y = b.process;
-                system.processes[i] = y;
-                // Its message goes out.
-                let to = b.addressees;
-                let m = b.message;
-                let sends = turns(to != 0);
-                h = 0;
-                while h < sends {
-                    let j = 8 * i + (h as usize);
-                    let d = system.channels[j];
-                    let crashed = system.processes[h as usize].crashed;
-                    h += 1;
-                    if and(has(to, ProcessId(h)), !crashed) {
-                        system.channels[j] = channel::push(d, m);
-                    }
-                }
-                // A stop empties the channels towards the process.
-                let empties = turns(and(done, scope.stops));
-                h = 0;
-                while h < empties {
-                    system.channels[8 * (h as usize) + i] = channel::empty();
-                    h += 1;
-                }
-                end = put_numbered(out, end, line, number(order.refusal, b.refusal));
+                let number = run_line(image, parse(&sheet[start..stop]));
+                end = put_numbered(out, end, line, number);
                 line += 1;
                 at = next;
             }
@@ -177,7 +82,7 @@ fn all_bad(sheet: &[u8], from: usize, out: &mut [u8]) -> usize
             Found::End => {
                 return end;
             }
-            Found::Line {
+            Found::Span {
                 start,
                 end: stop,
                 next,
@@ -197,11 +102,25 @@ fn size_in(line: Line) -> u8
     match line {
         Line::Fresh(n) => n,
         Line::Bad => 0,
-        Line::Report(p, view) => 0,
-        Line::Receive(q, p) => 0,
-        Line::Respond(p, q) => 0,
-        Line::Crash(p) => 0,
+        Line::Step(o) => 0,
     }
+}
+
+// The bytes for an image.
+fn image_buffer() -> [u8; 2097]
+    ensures { λ r. ⌜ length r ≡ imageWidth ⌝ }
+{
+    [0; 2097]
+}
+
+// The lines from a place on, of a sheet that starts a fresh system of n processes, 1 to 8.
+fn run_fresh(sheet: &[u8], from: usize, n: u8, out: &mut [u8]) -> usize
+    requires { ⌜ (isOneOf 8 n ≡ true) × (length (now sheet) ≤ 60000) ⌝ }
+    ensures { λ r. ⌜ page (now (out .exit)) r ≡ typed (page (now (out .entry)) 0) (printedFrom 2 (freshSystem n) (linesOf (drop from (now (sheet .entry))))) ⌝ }
+{
+    let mut image = image_buffer();
+    put_fresh(&mut image, n);
+    run_lines(sheet, from, &mut image, out)
 }
 
 // A whole sheet, printed into a lent buffer as far as there is room.
@@ -213,12 +132,10 @@ pub fn run_sheet(sheet: &[u8], out: &mut [u8]) -> usize
     }
     match read_line(sheet, 0) {
         Found::End => 0,
-        Found::Line { start, end, next } => {
+        Found::Span { start, end, next } => {
             let n = size_in(parse(&sheet[start..end]));
-            let o = system::fresh(n);
-            if o.refusal == 0 {
-                let system = o.system;
-                answers(sheet, next, system, out)
+            if and(1 <= n, n <= 8) {
+                run_fresh(sheet, next, n, out)
             } else {
                 all_bad(sheet, 0, out)
             }

@@ -6,15 +6,15 @@ use mathlib.Core.List.{List, [], _∷_}
 use native.Mathlib.Omega.{arith}
 use native.Mathlib.Nat.{add-assoc, add-sub-cancel-left}
 use native.Mathlib.Numerals.{add-one}
-use borrow.Author.Tests.{eq-eqb, ne-eqb, ltb-true, ltb-false}
+use borrow.Author.Tests.{eq-eqb, ne-eqb, lt-ltb, le-ltb, ltb-true, ltb-false}
 use lib.Dec.{ltb, leb}
 use lib.ListN.{length, getD, take, drop, length-drop, drop-of-length-le}
 use lib.Seq.{drop-cons, drop-drop, take-all}
 use Rattle.view.specs.Logic.{pick}
 use Rattle.view.specs.View.{with}
 use Rattle.view.proofs.Laws.{and-left, and-right}
-use Rattle.sheet.specs.declared.lines.Found.the-variants.{End, Line}
-use Rattle.sheet.specs.Lines.{isFeed, inFirst, withByte, linesOf, lineLength, lineAt}
+use Rattle.sheet.specs.declared.lines.Found.the-variants.{End, Span}
+use Rattle.sheet.specs.Lines.{isFeed, inFirst, withByte, linesOf, lineLength, nextPlace, lineBetween, lineAt}
 use Rattle.sheet.specs.Parse.{stands, begins, rising, noView}
 
 -- ---- how long a line is
@@ -66,9 +66,18 @@ pub record Cut (s : List ℕ) (at start end next : ℕ) : Type 0 where
   pub onward : at < next
   pub last : next ≤ length s + 1
 
-pub line-found : (s : List ℕ) (at start end next : ℕ) → lineAt s at ≡ Line start end next → Cut s at start end next
-unfolding lineAt pick
-line-found s at start end next e = by (ltb at (length s)) refl e
+line-here : (s : List ℕ) (at : ℕ) → at < length s → lineAt s at ≡ Span at (at + lineLength (drop at s)) (at + lineLength (drop at s) + 1)
+unfolding lineAt lineBetween nextPlace pick
+line-here s at h =
+    let e : at + lineLength (drop at s) + 1 - 1 ≡ at + lineLength (drop at s) = omega arith in
+    rw (lt-ltb at (length s) h, lt-ltb at (at + lineLength (drop at s) + 1) (omega arith), e)
+
+none-here : (s : List ℕ) (at : ℕ) → length s ≤ at → lineAt s at ≡ End
+unfolding lineAt lineBetween nextPlace pick
+none-here s at h = rw (le-ltb at (length s) h, le-ltb at at (omega arith))
+
+pub line-found : (s : List ℕ) (at start end next : ℕ) → lineAt s at ≡ Span start end next → Cut s at start end next
+line-found s at start end next e = by (ltb at (length s)) refl
   where
     go : at < length s → start ≡ at → end ≡ at + lineLength (drop at s) → next ≡ at + lineLength (drop at s) + 1 → Cut s at start end next
     go l a b c =
@@ -82,19 +91,17 @@ line-found s at start end next e = by (ltb at (length s)) refl e
           last = omega (arith, no-longer (drop at s), length-drop at s);
         }
 
-    by : (t : Bool) → ltb at (length s) ≡ t
-        → pick t (Line at (at + lineLength (drop at s)) (at + lineLength (drop at s) + 1)) End ≡ Line start end next → Cut s at start end next
-    by true h f = go (ltb-true at (length s) h) (cc) (cc) (cc)
-    by false h f = absurd (let z : _≡_ {A = ℕ} 0 1 = cc in omega arith)
+    by : (t : Bool) → ltb at (length s) ≡ t → Cut s at start end next
+    by true h = let here = line-here s at (ltb-true at (length s) h) in go (ltb-true at (length s) h) (cc) (cc) (cc)
+    by false h = let none = none-here s at (ltb-false at (length s) h) in absurd (let z : _≡_ {A = ℕ} 0 1 = cc in omega arith)
 
 pub end-found : (s : List ℕ) (at : ℕ) → lineAt s at ≡ End → linesOf (drop at s) ≡ []
-unfolding lineAt linesOf pick
-end-found s at e = by (ltb at (length s)) refl e
+unfolding linesOf
+end-found s at e = by (ltb at (length s)) refl
   where
-    by : (t : Bool) → ltb at (length s) ≡ t
-        → pick t (Line at (at + lineLength (drop at s)) (at + lineLength (drop at s) + 1)) End ≡ End → linesOf (drop at s) ≡ []
-    by true h f = absurd (let z : _≡_ {A = ℕ} 0 1 = cc in omega arith)
-    by false h f = rw (drop-of-length-le s (ltb-false at (length s) h))
+    by : (t : Bool) → ltb at (length s) ≡ t → linesOf (drop at s) ≡ []
+    by true h = let here = line-here s at (ltb-true at (length s) h) in absurd (let z : _≡_ {A = ℕ} 0 1 = cc in omega arith)
+    by false h = rw (drop-of-length-le s (ltb-false at (length s) h))
 
 -- a sheet has no more lines than bytes
 pub few-lines : (s : List ℕ) → length (linesOf s) ≤ length s

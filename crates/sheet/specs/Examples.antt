@@ -3,8 +3,9 @@ use Prim.Native.Nat.{ℕ}
 use Prim.Native.String.{String}
 use mathlib.Core.List.{List, [], _∷_, _++_, map}
 use Rattle.print.specs.Text.{bytes}
+use Rattle.plan.specs.declared.Step.the-variants.{Report, Receive, Respond, Crash}
 use Rattle.sheet.specs.declared.parse.Line.{Line}
-use Rattle.sheet.specs.declared.parse.Line.the-variants.{Bad, Fresh, Report, Receive, Respond, Crash}
+use Rattle.sheet.specs.declared.parse.Line.the-variants.{Bad, Fresh, Step}
 use Rattle.sheet.specs.Lines.{linesOf}
 use Rattle.sheet.specs.Parse.{parsed}
 
@@ -44,25 +45,38 @@ infix 80 _says_
 abbrev _says_ : String → Line → Saying
 s says x = record { line = bytes s; says = x }
 
-abbrev report : ℕ → ℕ → Line
-report p v = Report (record { 0 = p }) v
+-- lines that ask for a step, by the numbers in them
+abbrev reports : ℕ → ℕ → Line
+reports p v = Step (Report (record { 0 = p }) v)
+
+abbrev receives : ℕ → ℕ → Line
+receives q p = Step (Receive (record { 0 = q }) (record { 0 = p }))
+
+abbrev responds : ℕ → ℕ → Line
+responds p q = Step (Respond (record { 0 = p }) (record { 0 = q }))
+
+abbrev crashes : ℕ → Line
+crashes p = Step (Crash (record { 0 = p }))
 
 abbrev pub sayings : List Saying
 sayings =
-    -- each form; a process may be any digit
+    -- each form; a process may be any digit, 0 and 9 among them, at each place
     "u 1" says Fresh 1
     ∷ "u 8" says Fresh 8
-    ∷ "r 1 1" says report 1 1
-    ∷ "r 2 12345678" says report 2 255
-    ∷ "r 0 28" says report 0 130
-    ∷ "r 9 8" says report 9 128
-    ∷ "r 1 -" says report 1 0
-    ∷ "t 1 2" says Receive (record { 0 = 1 }) (record { 0 = 2 })
-    ∷ "t 0 9" says Receive (record { 0 = 0 }) (record { 0 = 9 })
-    ∷ "a 1 2" says Respond (record { 0 = 1 }) (record { 0 = 2 })
-    ∷ "s 3" says Crash (record { 0 = 3 })
-    ∷ "s 0" says Crash (record { 0 = 0 })
-    ∷ "s 9" says Crash (record { 0 = 9 })
+    ∷ "r 1 1" says reports 1 1
+    ∷ "r 2 12345678" says reports 2 255
+    ∷ "r 0 28" says reports 0 130
+    ∷ "r 9 8" says reports 9 128
+    ∷ "r 1 -" says reports 1 0
+    ∷ "t 1 2" says receives 1 2
+    ∷ "t 0 9" says receives 0 9
+    ∷ "t 9 0" says receives 9 0
+    ∷ "a 1 2" says responds 1 2
+    ∷ "a 0 9" says responds 0 9
+    ∷ "a 9 0" says responds 9 0
+    ∷ "s 3" says crashes 3
+    ∷ "s 0" says crashes 0
+    ∷ "s 9" says crashes 9
     -- a size is 1 to 8
     ∷ "u 0" says Bad
     ∷ "u 9" says Bad

@@ -1,5 +1,5 @@
 -- The lines of a sheet: "Lines end with a line feed, which the last may lack."
-use Prim.Native.Nat.{ℕ, suc, _+_}
+use Prim.Native.Nat.{ℕ, suc, _+_, _-_}
 use Prim.Native.Char.{code}
 use mathlib.Core.Bool.{Bool}
 use mathlib.Core.List.{List, [], _∷_}
@@ -7,7 +7,7 @@ use lib.Dec.{eqb, ltb}
 use lib.ListN.{length, drop}
 use Rattle.view.specs.Logic.{pick}
 use Rattle.sheet.specs.declared.lines.Found.{Found}
-use Rattle.sheet.specs.declared.lines.Found.the-variants.{End, Line}
+use Rattle.sheet.specs.declared.lines.Found.the-variants.{End, Span}
 
 abbrev pub isFeed : ℕ → Bool
 isFeed b = eqb b (code "\n")
@@ -29,6 +29,14 @@ unfoldable pub lineLength : List ℕ → ℕ
 lineLength [] = 0
 lineLength (b ∷ bs) = pick (isFeed b) 0 (suc (lineLength bs))
 
--- the line at a place: where it starts, where it ends, and where the next one starts
+-- the place of the next line; past the last line, the same place
+unfoldable pub nextPlace : List ℕ → ℕ → ℕ
+nextPlace s at = pick (ltb at (length s)) (at + lineLength (drop at s) + 1) at
+
+-- the line from a place up to the next line's: where it starts, where it ends, and where the next one starts
+unfoldable pub lineBetween : ℕ → ℕ → Found
+lineBetween at next = pick (ltb at next) (Span at (next - 1) next) End
+
+-- the line at a place
 unfoldable pub lineAt : List ℕ → ℕ → Found
-lineAt s at = pick (ltb at (length s)) (Line at (at + lineLength (drop at s)) (at + lineLength (drop at s) + 1)) End
+lineAt s at = lineBetween at (nextPlace s at)

@@ -11,18 +11,33 @@ use lib.ListN.{length, getD, drop}
 use Rattle.view.specs.Logic.{pick}
 use Rattle.view.specs.View.{with}
 use Rattle.view.specs.declared.ProcessId.{ProcessId}
+use Rattle.plan.specs.declared.Step.the-variants.{Report, Receive, Respond, Crash}
 use Rattle.sheet.specs.declared.parse.Line.{Line}
-use Rattle.sheet.specs.declared.parse.Line.the-variants.{Bad, Fresh, Report, Receive, Respond, Crash}
+use Rattle.sheet.specs.declared.parse.Line.the-variants.{Bad, Fresh, Step}
 use Rattle.print.specs.Text.{bytes}
 
-abbrev pub between : Char → Char → ℕ → Bool
-between c d b = leb (code c) b && leb b (code d)
+-- what a line says, each case with document 01's number, 8 or 0, and its values in the form's order
+pub record Meaning : Type 0 where
+  pub number : ℕ
+  pub values : List ℕ
+
+unfoldable pub meaning : Line → Meaning
+meaning Bad = record { number = 8; values = [] }
+meaning (Fresh n) = record { number = 0; values = n ∷ [] }
+meaning (Step (Report p v)) = record { number = 0; values = p .0 ∷ v ∷ [] }
+meaning (Step (Receive q p)) = record { number = 0; values = q .0 ∷ p .0 ∷ [] }
+meaning (Step (Respond p q)) = record { number = 0; values = p .0 ∷ q .0 ∷ [] }
+meaning (Step (Crash p)) = record { number = 0; values = p .0 ∷ [] }
+
+-- b is a digit from c to d
+abbrev pub isDigit : Char → Char → ℕ → Bool
+isDigit c d b = leb (code c) b && leb b (code d)
 
 -- byte b stands where a form has byte f: "N 1 to 8", "P and Q are one digit", and any other byte only for itself
 unfoldable pub stands : ℕ → ℕ → Bool
 stands f b =
-    pick (eqb f (code "N")) (between "1" "8" b)
-    (pick (eqb f (code "P") || eqb f (code "Q")) (between "0" "9" b) (eqb f b))
+    pick (eqb f (code "N")) (isDigit "1" "8" b)
+    (pick (eqb f (code "P") || eqb f (code "Q")) (isDigit "0" "9" b) (eqb f b))
 
 -- the line begins with a form
 unfoldable pub begins : List ℕ → List ℕ → Bool
@@ -38,8 +53,8 @@ fits f l = eqb (length l) (length f) && begins f l
 unfoldable pub digitAt : List ℕ → ℕ → ℕ
 digitAt l i = getD l i 0 - code "0"
 
-abbrev pub processAt : List ℕ → ℕ → ProcessId
-processAt l i = record { 0 = digitAt l i }
+abbrev pub idAt : List ℕ → ℕ → ProcessId
+idAt l i = record { 0 = digitAt l i }
 
 -- no byte, and so no view
 abbrev pub noView : ℕ
@@ -58,12 +73,12 @@ unfoldable pub viewIn : List ℕ → ℕ
 viewIn l = pick (fits (bytes "-") l) 0 (pick (eqb (length l) 0) noView (digitsView l))
 
 unfoldable pub reported : ProcessId → ℕ → Line
-reported p v = pick (ltb v noView) (Report p v) Bad
+reported p v = pick (ltb v noView) (Step (Report p v)) Bad
 
 unfoldable pub parsed : List ℕ → Line
 parsed l =
     pick (fits (bytes "u N") l) (Fresh (digitAt l 2))
-    (pick (begins (bytes "r P ") l) (reported (processAt l 2) (viewIn (drop 4 l)))
-    (pick (fits (bytes "t Q P") l) (Receive (processAt l 2) (processAt l 4))
-    (pick (fits (bytes "a P Q") l) (Respond (processAt l 2) (processAt l 4))
-    (pick (fits (bytes "s P") l) (Crash (processAt l 2)) Bad))))
+    (pick (begins (bytes "r P ") l) (reported (idAt l 2) (viewIn (drop 4 l)))
+    (pick (fits (bytes "t Q P") l) (Step (Receive (idAt l 2) (idAt l 4)))
+    (pick (fits (bytes "a P Q") l) (Step (Respond (idAt l 2) (idAt l 4)))
+    (pick (fits (bytes "s P") l) (Step (Crash (idAt l 2))) Bad))))

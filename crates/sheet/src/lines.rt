@@ -2,13 +2,13 @@
 ghost use mathlib.Core.Path.{_≡_};
 ghost use Prim.Native.Nat.{_+_};
 ghost use lib.ListN.{drop};
-ghost use Rattle.sheet.specs.Lines.{lineLength, lineAt};
+ghost use Rattle.sheet.specs.Lines.{lineLength, nextPlace, lineBetween};
 
 // What stands at a place of a sheet: a line, from start up to end, with the next line's place; or
 // nothing.
 pub enum Found {
     End,
-    Line {
+    Span {
         start: usize,
         end: usize,
         next: usize,
@@ -29,16 +29,26 @@ fn line_end(s: &[u8], at: usize) -> usize
     i
 }
 
-// The line at a place.
-pub fn line_at(s: &[u8], at: usize) -> Found
-    ensures { λ r. ⌜ r ≡ lineAt (now (s .entry)) at ⌝ }
+// The place of the next line; past the last line, the same place.
+pub fn next_place(s: &[u8], at: usize) -> usize
+    ensures { λ r. ⌜ r ≡ nextPlace (now (s .entry)) at ⌝ }
 {
     if at < s.len() {
-        let end = line_end(s, at);
-        Found::Line {
+        line_end(s, at) + 1
+    } else {
+        at
+    }
+}
+
+// The line from a place up to the next line's.
+pub fn line_between(at: usize, next: usize) -> Found
+    ensures { λ r. ⌜ r ≡ lineBetween at next ⌝ }
+{
+    if at < next {
+        Found::Span {
             start: at,
-            end,
-            next: end + 1,
+            end: next - 1,
+            next,
         }
     } else {
         Found::End

@@ -1,6 +1,7 @@
 // What a line of a sheet says.
 ghost use mathlib.Core.Path.{_≡_};
 ghost use Rattle.sheet.specs.Parse.{stands, begins, fits, digitAt, digitsView, viewIn, parsed};
+use plan::Step;
 use view::ProcessId;
 use view::and;
 use view::or;
@@ -11,12 +12,7 @@ pub enum Line {
     Bad,
     // The fresh system of so many processes.
     Fresh(u8),
-    Report(ProcessId, u8),
-    // From the first process, at the second.
-    Receive(ProcessId, ProcessId),
-    // The first process answers the second.
-    Respond(ProcessId, ProcessId),
-    Crash(ProcessId),
+    Step(Step),
 }
 
 // No byte, and so no view.
@@ -119,19 +115,19 @@ pub fn parse(l: &[u8]) -> Line
     if begins(b"r P ", l) {
         let view = view_in(&l[4..]);
         if view < NO_VIEW {
-            return Line::Report(ProcessId(digit_at(l, 2)), view as u8);
+            return Line::Step(Step::Report(ProcessId(digit_at(l, 2)), view as u8));
         } else {
             return Line::Bad;
         }
     }
     if fits(b"t Q P", l) {
-        return Line::Receive(ProcessId(digit_at(l, 2)), ProcessId(digit_at(l, 4)));
+        return Line::Step(Step::Receive(ProcessId(digit_at(l, 2)), ProcessId(digit_at(l, 4))));
     }
     if fits(b"a P Q", l) {
-        return Line::Respond(ProcessId(digit_at(l, 2)), ProcessId(digit_at(l, 4)));
+        return Line::Step(Step::Respond(ProcessId(digit_at(l, 2)), ProcessId(digit_at(l, 4))));
     }
     if fits(b"s P", l) {
-        return Line::Crash(ProcessId(digit_at(l, 2)));
+        return Line::Step(Step::Crash(ProcessId(digit_at(l, 2))));
     }
     Line::Bad
 }

@@ -1,5 +1,5 @@
 -- Sound and unsound systems, each with what the definition must say of it: the fresh ones, and a system of two processes with one
--- thing changed. Above each stands the sentence of document 01 that it obeys or breaks.
+-- thing altered. Above each stands the sentence of document 01 that it obeys or breaks.
 -- The bytes of the views: 1 is {1}, 2 is {2}, 3 is {1, 2}, 4 is {3}, 5 is {1, 3}, 7 is {1, 2, 3}.
 use Prim.Native.Nat.{ℕ}
 use mathlib.Core.Path.{_≡_, refl}
@@ -16,73 +16,52 @@ use Rattle.channel.specs.Channel.{slot, emptyChannel, waiting}
 use Rattle.system.specs.declared.Pending.the-variants.{Proposal}
 use Rattle.system.specs.declared.Process.{Process}
 use Rattle.system.specs.declared.System.{System}
-use Rattle.system.specs.Process.{entryAt, withEntry, pendingAt, withPending}
+use Rattle.system.specs.Process.{index, entryAt, withEntry, pendingAt, withPending, withVariables, withHistory}
 use Rattle.system.specs.System.{noProcess, processAt, withProcess, channelNumber, channelAt, withChannel}
-use Rattle.system.specs.Fresh.{freshProcess, freshSystem}
-use Rattle.sound.specs.Sound.{every, soundProposal, soundMessage, soundPending, soundChannel, soundHistory, soundFields, soundProcess, soundChannelAt, soundAt, soundSystem}
+use Rattle.system.specs.Fresh.{freshVariables, freshProcess, freshSystem}
+use Rattle.sound.specs.Sound.{every, soundProposal, soundMessage, soundPending, soundChannel, soundHistory, soundVariables, soundProcess, soundChannelAt, soundAt, soundSystem}
 
--- ---- one thing changed
-abbrev pub index : ℕ → GroupIndex
-index i = record { 0 = i }
-
+-- ---- one thing altered
 abbrev pub two : System
 two = freshSystem 2
 
 abbrev pub sized : ℕ → System
 sized n = record { n = n; processes = two .processes; channels = two .channels }
 
--- process p of the two, changed
-abbrev pub changed : ℕ → (Process → Process) → System
-changed p f = withProcess two p (f (processAt two p))
+-- process p of the two, altered
+abbrev pub altered : ℕ → (Process → Process) → System
+altered p f = withProcess two p (f (processAt two p))
 
--- a process of the two with these fields, its records and its history kept
-abbrev pub withFields : Bool → ℕ → ℕ → ℕ → ℕ → ℕ → Process → Process
-withFields crashed view next propout proposal acks x =
-    record {
-      crashed = crashed;
-      view = view;
-      next = index next;
-      propout = index propout;
-      proposal = proposal;
-      acks = acks;
-      pending = x .pending;
-      history = x .history;
-    }
+-- a process of the two with these variables, its records and its history kept
+abbrev pub having : Bool → ℕ → ℕ → ℕ → ℕ → ℕ → Process → Process
+having crashed view next propout proposal acks x =
+    withVariables x
+    (record { crashed = crashed; view = view; next = index next; propout = index propout; proposal = proposal; acks = acks })
 
 -- each with one field that is not the fresh one
 abbrev pub withView : ℕ → Process → Process
-withView v = withFields false v 2 1 0 0
+withView v = having false v 2 1 0 0
 
 abbrev pub withNext : ℕ → Process → Process
-withNext i = withFields false 3 i 1 0 0
+withNext i = having false 3 i 1 0 0
 
 -- PropOut and the last proposed view
 abbrev pub proposing : ℕ → ℕ → Process → Process
-proposing i v = withFields false 3 2 i v 0
+proposing i v = having false 3 2 i v 0
 
 abbrev pub withAcks : ℕ → Process → Process
-withAcks v = withFields false 3 2 1 0 v
+withAcks v = having false 3 2 1 0 v
 
 abbrev pub crashed : Process → Process
-crashed = withFields true 3 2 1 0 0
+crashed = having true 3 2 1 0 0
 
 -- the entry v at index i
 abbrev pub holding : ℕ → ℕ → Process → Process
-holding i v x =
-    record {
-      crashed = x .crashed;
-      view = x .view;
-      next = x .next;
-      propout = x .propout;
-      proposal = x .proposal;
-      acks = x .acks;
-      pending = x .pending;
-      history = withEntry (x .history) i v;
-    }
+holding i v x = withHistory x (withEntry (x .history) i v)
 
 -- process 2 has recorded a proposal from process 1
 abbrev pub recorded : ℕ → ℕ → System
-recorded v i = changed 2 (λ x. withPending x 1 (Proposal v (index i)))
+recorded v i = altered 2 (λ x. withPending x 1 (Proposal v (index i)))
 
 -- a channel whose eight slots hold the same message, of which k wait
 abbrev pub filled : Message → ℕ → Channel
@@ -118,37 +97,38 @@ examples =
     ∷ sound (freshSystem 8)
     ∷ unsound (sized 9)
     -- "Next (2 to 33)"
-    ∷ unsound (changed 1 (withNext 1))
-    ∷ sound (changed 1 (withNext 33))
-    ∷ unsound (changed 2 (withNext 34))
+    ∷ unsound (altered 1 (withNext 1))
+    ∷ sound (altered 1 (withNext 33))
+    ∷ unsound (altered 2 (withNext 34))
     -- "PropOut (1 to 32)"
-    ∷ unsound (changed 1 (proposing 0 3))
-    ∷ sound (changed 1 (proposing 32 3))
-    ∷ unsound (changed 2 (proposing 33 3))
+    ∷ unsound (altered 1 (proposing 0 3))
+    ∷ sound (altered 1 (proposing 32 3))
+    ∷ unsound (altered 2 (proposing 33 3))
     -- "It holds 0 to 8 messages"
     ∷ sound (sending 8 (Acc (index 2)))
     ∷ unsound (sending 9 (Acc (index 2)))
     -- "every view names only units 1 to n": the local view, an entry, the last proposed view, the set of those that acknowledged
-    ∷ unsound (changed 1 (withView 7))
-    ∷ sound (changed 1 (holding 32 2))
-    ∷ unsound (changed 1 (holding 32 4))
-    ∷ unsound (changed 1 (proposing 2 5))
-    ∷ sound (changed 1 (withAcks 3))
-    ∷ unsound (changed 1 (withAcks 4))
+    ∷ unsound (altered 1 (withView 7))
+    ∷ sound (altered 1 (holding 32 2))
+    ∷ unsound (altered 1 (holding 32 4))
+    ∷ unsound (altered 1 (proposing 2 5))
+    ∷ sound (altered 1 (withAcks 3))
+    ∷ unsound (altered 1 (withAcks 4))
     -- "position 1 holds a non-empty view at each unit"
-    ∷ unsound (changed 2 (holding 1 0))
+    ∷ unsound (altered 2 (holding 1 0))
     -- "each local view contains its own unit"
-    ∷ sound (changed 2 (withView 2))
-    ∷ unsound (changed 2 (withView 1))
+    ∷ sound (altered 2 (withView 2))
+    ∷ unsound (altered 2 (withView 1))
     -- "the last proposed view is empty if PropOut is 1 and otherwise contains its own unit"
-    ∷ unsound (changed 2 (proposing 1 2))
-    ∷ sound (changed 2 (proposing 2 2))
-    ∷ unsound (changed 2 (proposing 2 1))
-    ∷ unsound (changed 2 (proposing 2 0))
+    ∷ unsound (altered 2 (proposing 1 2))
+    ∷ sound (altered 2 (proposing 2 2))
+    ∷ unsound (altered 2 (proposing 2 1))
+    ∷ unsound (altered 2 (proposing 2 0))
     -- "every line towards a stopped unit is empty"
-    ∷ sound (changed 2 crashed)
-    ∷ unsound (withChannel (changed 2 crashed) 1 2 (filled (Acc (index 2)) 1))
-    ∷ sound (withChannel (changed 2 crashed) 2 1 (filled (Acc (index 2)) 1))
+    ∷ sound (altered 2 crashed)
+    ∷ unsound (withChannel (altered 2 crashed) 2 2 (filled (Acc (index 2)) 1))
+    ∷ unsound (withChannel (altered 2 crashed) 1 2 (filled (Acc (index 2)) 1))
+    ∷ sound (withChannel (altered 2 crashed) 2 1 (filled (Acc (index 2)) 1))
     -- "Propose .. carry a position from 2 to 32 and a view with both sender and receiver in it": index, sender, receiver, beyond n
     ∷ sound (sending 1 (Propose 3 (index 2)))
     ∷ sound (sending 1 (Propose 3 (index 32)))
@@ -185,8 +165,8 @@ examples =
     ∷ unsound (sending 1 (Retry (index 2) (index 2)))
     ∷ unsound (sending 1 (Retry (index 2) (index 34)))
     -- what lies past n is no part of the table: a process, a record from it, a channel to it and one from it
-    ∷ sound (changed 3 (withNext 0))
-    ∷ sound (changed 1 (λ x. withPending x 3 (Proposal 255 (index 0))))
+    ∷ sound (altered 3 (withNext 0))
+    ∷ sound (altered 1 (λ x. withPending x 3 (Proposal 255 (index 0))))
     ∷ sound (withChannel two 1 3 (filled (Acc (index 0)) 9))
     ∷ sound (withChannel two 3 1 (filled (Acc (index 0)) 9))
     -- what lies past a channel's length is not either
@@ -195,8 +175,8 @@ examples =
 
 -- the definition says of each what the list says
 pub examples-right : allRight examples ≡ true
-unfolding soundSystem soundAt soundChannelAt soundProcess soundFields soundHistory soundChannel soundPending soundMessage soundProposal every
+unfolding soundSystem soundAt soundChannelAt soundProcess soundVariables soundHistory soundChannel soundPending soundMessage soundProposal every
     within has everyone pick allUpTo at put
-    freshSystem freshProcess processAt withProcess channelNumber channelAt withChannel noProcess
-    entryAt withEntry pendingAt withPending emptyChannel waiting
+    freshSystem freshProcess freshVariables processAt withProcess channelNumber channelAt withChannel noProcess
+    entryAt withEntry pendingAt withPending withVariables withHistory emptyChannel waiting
 examples-right = refl

@@ -1,1 +1,11 @@
-pub mod Laws
+-- What every proof about steps begins with: the cases of a step, split once, and that soundness is kept.
+pub mod Frames
+pub mod Soundness
+pub mod Cases
+pub mod Effects
+pub mod Broadcasts
+pub mod Carried
+pub mod Inversion
+pub mod SoundSteps
+pub mod Beginning
+pub mod Outcomes

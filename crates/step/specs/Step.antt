@@ -1,59 +1,73 @@
 -- One step of any kind on any system, and a list of steps.
 use Prim.Native.Nat.{ℕ}
-use mathlib.Core.Bool.{_&&_}
+use mathlib.Core.Bool.{Bool, _&&_}
 use mathlib.Core.List.{List, [], _∷_}
 use lib.Dec.{eqb}
-use Rattle.view.specs.Logic.{pick, eachUpTo, isOneOf}
+use Rattle.view.specs.Logic.{pick, unless, eachUpTo, isOneOf}
 use Rattle.channel.specs.Channel.{emptyChannel, front, popped}
 use Rattle.system.specs.declared.System.{System}
 use Rattle.system.specs.declared.Outcome.{Outcome}
-use Rattle.system.specs.System.{processAt, withProcess, channelAt, withChannel, broadcasted, roomFor, done, refused}
+use Rattle.system.specs.Process.{asCrashed, pendingAt, withVariables}
+use Rattle.system.specs.System.{processAt, variablesAt, withProcess, channelAt, withChannel, broadcasted, roomFor, done, refused}
 use Rattle.sound.specs.Sound.{soundSystem}
 use Rattle.plan.specs.declared.Plan.{Plan}
-use Rattle.step.specs.declared.Step.{Step}
-use Rattle.step.specs.declared.Step.the-variants.{Report, Receive, Respond, Crash}
-use Rattle.plan.specs.Fields.{asCrashed}
-use Rattle.plan.specs.Plan.{reportPlan, receivePlan, respondPlan}
+use Rattle.plan.specs.declared.Scope.{Scope}
+use Rattle.plan.specs.declared.Step.{Step}
+use Rattle.plan.specs.declared.Step.the-variants.{Report, Receive, Respond, Crash}
+use Rattle.plan.specs.Plan.{changed, reportPlan, receivePlan, respondPlan, crashPlan}
+use Rattle.plan.specs.Scope.{scopeOf}
 
--- Refusal 2, "a unit number in the step is not 1 to n"; refusal 3, "the unit that would act has stopped": p acts, q is the other
--- process that the step names. Otherwise the outcome o.
-unfoldable pub permitted : System → ℕ → ℕ → Outcome → Outcome
-permitted s p q o =
-    pick (isOneOf (s .n) p && isOneOf (s .n) q) (pick (processAt s p .crashed) (refused 3 s) o) (refused 2 s)
+-- what the acting process plans
+unfoldable pub planOf : System → Step → Plan
+planOf s (Report p v) = reportPlan (s .n) (p .0) v (variablesAt s (p .0))
+planOf s (Receive q p) = receivePlan q (p .0) (variablesAt s (p .0)) (front (channelAt s (q .0) (p .0)))
+planOf s (Respond p q) = respondPlan q (variablesAt s (p .0)) (pendingAt (processAt s (p .0)) (q .0))
+planOf s (Crash p) = crashPlan (variablesAt s (p .0))
 
--- The plan of process p is carried out in t; a refusal returns s, the system handed over. Refusal 7: "a message of this step goes
--- to a unit that has not stopped, over a line that already holds 8".
-unfoldable pub carriedOut : System → System → ℕ → Plan → Outcome
-carriedOut s t p a =
-    pick (eqb (a .refusal) 0)
-    (pick (roomFor t p (a .addressees))
-    (done (broadcasted (withProcess t p (a .process)) p (a .addressees) (a .message)))
-    (refused 7 s))
-    (refused (a .refusal) s)
-
--- "The oldest message on the line from q to p comes off."
-unfoldable pub takenOff : System → ℕ → ℕ → System
-takenOff s q p = withChannel s q p (popped (channelAt s q p))
+-- "The oldest message on the line from q to p comes off.", where the step takes one
+unfoldable pub takenOff : System → Scope → System
+takenOff s c = pick (c .takes) (withChannel s (c .partner .0) (c .actor .0) (popped (channelAt s (c .partner .0) (c .actor .0)))) s
 
 -- "Every line towards p is emptied; lines from p keep their messages."
 unfoldable pub emptiedFrom : ℕ → ℕ → System → System
 emptiedFrom p q s = withChannel s q p emptyChannel
 
-unfoldable pub stopped : System → ℕ → System
-stopped s p = eachUpTo 8 (emptiedFrom p) (withProcess s p (asCrashed (processAt s p)))
+-- "p is stopped for good."
+unfoldable pub crashedAt : System → ℕ → System
+crashedAt s p =
+    eachUpTo 8 (emptiedFrom p) (withProcess s p (withVariables (processAt s p) (asCrashed (variablesAt s p))))
+
+unfoldable pub crashedIf : Bool → System → ℕ → System
+crashedIf stops s p = pick stops (crashedAt s p) s
+
+-- process p changes as its plan says, its message goes out, and it stops or not
+unfoldable pub effected : System → ℕ → Plan → System
+effected t p a =
+    crashedIf (a .stops) (broadcasted (withProcess t p (changed (processAt t p) (a .change))) p (a .addressees) (a .message)) p
+
+-- The plan of process p is carried out in t; a refusal returns s, the system handed over. Refusal 7: "a message of this step goes
+-- to a unit that has not stopped, over a line that already holds 8".
+unfoldable pub carriedOut : System → System → ℕ → Plan → Outcome
+carriedOut s t p a =
+    unless (eqb (a .refusal) 0) (refused (a .refusal) s)
+    (unless (roomFor t p (a .addressees)) (refused 7 s)
+    (done (effected t p a)))
+
+-- Refusal 2, "a unit number in the step is not 1 to n"; refusal 3, "the unit that would act has stopped". Otherwise the plan is
+-- carried out.
+unfoldable pub permitted : System → Scope → Plan → Outcome
+permitted s c a =
+    unless (isOneOf (s .n) (c .actor .0) && isOneOf (s .n) (c .partner .0)) (refused 2 s)
+    (pick (variablesAt s (c .actor .0) .crashed) (refused 3 s)
+    (carriedOut s (takenOff s c) (c .actor .0) a))
 
 -- the step, on a system taken to be sound
 unfoldable pub attempted : System → Step → Outcome
-attempted s (Report p v) = permitted s (p .0) (p .0) (carriedOut s s (p .0) (reportPlan (s .n) (p .0) v (processAt s (p .0))))
-attempted s (Receive q p) =
-    permitted s (p .0) (q .0)
-    (carriedOut s (takenOff s (q .0) (p .0)) (p .0) (receivePlan (q .0) (p .0) (processAt s (p .0)) (front (channelAt s (q .0) (p .0)))))
-attempted s (Respond p q) = permitted s (p .0) (q .0) (carriedOut s s (p .0) (respondPlan (q .0) (processAt s (p .0))))
-attempted s (Crash p) = permitted s (p .0) (p .0) (done (stopped s (p .0)))
+attempted s o = permitted s (scopeOf o) (planOf s o)
 
 -- the step. Refusal 1: "the table is not sound"
 unfoldable pub stepped : System → Step → Outcome
-stepped s o = pick (soundSystem s) (attempted s o) (refused 1 s)
+stepped s o = unless (soundSystem s) (refused 1 s) (attempted s o)
 
 -- the system after a list of steps, "each handed the table that the one before returned"
 unfoldable pub ran : System → List Step → System

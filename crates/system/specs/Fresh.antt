@@ -8,21 +8,21 @@ use Rattle.view.specs.Logic.{pick, isOneOf}
 use Rattle.view.specs.View.{everyone}
 use Rattle.channel.specs.Channel.{emptyChannel}
 use Rattle.system.specs.declared.Pending.the-variants.{Nothing}
+use Rattle.system.specs.declared.Variables.{Variables}
 use Rattle.system.specs.declared.Process.{Process}
 use Rattle.system.specs.declared.System.{System}
 use Rattle.system.specs.declared.Outcome.{Outcome}
-use Rattle.system.specs.Process.{withEntry, noEntries, pendingSlot}
+use Rattle.system.specs.Process.{withEntry, noEntries, index, pendingSlot}
 use Rattle.system.specs.System.{done, refused}
+
+unfoldable pub freshVariables : ℕ → Variables
+freshVariables n =
+    record { crashed = false; view = everyone n; next = index 2; propout = index 1; proposal = 0; acks = 0 }
 
 unfoldable pub freshProcess : ℕ → Process
 freshProcess n =
     record {
-      crashed = false;
-      view = everyone n;
-      next = record { 0 = 2 };
-      propout = record { 0 = 1 };
-      proposal = 0;
-      acks = 0;
+      variables = freshVariables n;
       pending = replicate 8 (pendingSlot Nothing);
       history = withEntry noEntries 1 (everyone n);
     }

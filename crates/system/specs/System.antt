@@ -1,6 +1,6 @@
 -- Document 01's table, called the system here: n processes and, between every ordered pair of them, one channel.
 use Prim.Native.Nat.{ℕ, _+_, _-_, _*_}
-use mathlib.Core.Bool.{Bool, false, _&&_, _||_, not}
+use mathlib.Core.Bool.{Bool, _&&_, _||_, not}
 use lib.ListN.{replicate}
 use Rattle.view.specs.Logic.{pick, allUpTo, eachUpTo, at, put, isOneOf}
 use Rattle.view.specs.View.{has}
@@ -8,27 +8,21 @@ use Rattle.channel.specs.declared.Message.{Message}
 use Rattle.channel.specs.declared.Channel.{Channel}
 use Rattle.channel.specs.Channel.{emptyChannel, hasRoom, pushed}
 use Rattle.system.specs.declared.Pending.the-variants.{Nothing}
+use Rattle.system.specs.declared.Variables.{Variables}
 use Rattle.system.specs.declared.Process.{Process}
 use Rattle.system.specs.declared.System.{System}
 use Rattle.system.specs.declared.Outcome.{Outcome}
-use Rattle.system.specs.Process.{noEntries, pendingSlot}
+use Rattle.system.specs.Process.{noVariables, noEntries, pendingSlot}
 
 -- what is read where there is no process of that number
 unfoldable pub noProcess : Process
-noProcess =
-    record {
-      crashed = false;
-      view = 0;
-      next = record { 0 = 0 };
-      propout = record { 0 = 0 };
-      proposal = 0;
-      acks = 0;
-      pending = replicate 8 (pendingSlot Nothing);
-      history = noEntries;
-    }
+noProcess = record { variables = noVariables; pending = replicate 8 (pendingSlot Nothing); history = noEntries }
 
 unfoldable pub processAt : System → ℕ → Process
 processAt s p = at (s .processes) p noProcess
+
+abbrev pub variablesAt : System → ℕ → Variables
+variablesAt s p = processAt s p .variables
 
 unfoldable pub withProcess : System → ℕ → Process → System
 withProcess s p x = record { n = s .n; processes = put (s .processes) p x; channels = s .channels }
@@ -46,7 +40,7 @@ withChannel s q p c = record { n = s .n; processes = s .processes; channels = pu
 
 -- one message from q to p: "A message sent to a stopped unit vanishes and needs no room."
 unfoldable pub sent : System → ℕ → ℕ → Message → System
-sent s q p m = pick (processAt s p .crashed) s (withChannel s q p (pushed (channelAt s q p) m))
+sent s q p m = pick (variablesAt s p .crashed) s (withChannel s q p (pushed (channelAt s q p) m))
 
 unfoldable pub sentIfNamed : ℕ → ℕ → Message → ℕ → System → System
 sentIfNamed q v m p s = pick (has v p) (sent s q p m) s
@@ -57,7 +51,7 @@ broadcasted s q v m = eachUpTo 8 (sentIfNamed q v m) s
 
 -- process p is not named, or takes a message from q: it has crashed, or the channel has room
 unfoldable pub takesIfNamed : System → ℕ → ℕ → ℕ → Bool
-takesIfNamed s q v p = not (has v p) || (processAt s p .crashed || hasRoom (channelAt s q p))
+takesIfNamed s q v p = not (has v p) || (variablesAt s p .crashed || hasRoom (channelAt s q p))
 
 -- a broadcast finds room
 unfoldable pub roomFor : System → ℕ → ℕ → Bool

@@ -1,7 +1,7 @@
 -- Laws of tests, of loops over 1 to n and of lists numbered from 1, which the proofs of all crates cite.
 use Prim.Native.Nat.{ℕ, zero, suc, _≤_, _<_, _+_, _-_}
 use mathlib.Core.Path.{_≡_, refl, sym, _∙_, ap, subst}
-use mathlib.Core.Bool.{Bool, true, false, _&&_, _||_, Bool·beq}
+use mathlib.Core.Bool.{Bool, true, false, _&&_, _||_, Bool·beq, and-assoc, and-true}
 use mathlib.Core.List.{List, [], _∷_, _++_, map}
 use mathlib.Core.Logic.{_⊎_, inl, inr, ⊎-elim}
 use native.Mathlib.Omega.{arith}
@@ -46,6 +46,10 @@ pub by-pick : {A : Type 0} (P : A → Type 0) (t : Bool) (a b : A) → (t ≡ tr
 unfolding pick
 by-pick P true a b yes-case no-case = yes-case refl
 by-pick P false a b yes-case no-case = no-case refl
+
+pub by-test : {C : Type 0} (t : Bool) → (t ≡ true → C) → (t ≡ false → C) → C
+by-test true yes-case no-case = yes-case refl
+by-test false yes-case no-case = no-case refl
 
 pub by-number : {C : Type 0} (k p : ℕ) → (k ≡ p → C) → ((k ≡ p → ⊥) → C) → C
 by-number k p same other = elim (ℕ-discrete k p) [ yes e ↦ same e | no h ↦ other h ]
@@ -103,6 +107,19 @@ all-elim (suc n) f e k l u =
       | yes p ↦ all-elim n f (and-left (allUpTo n f) (f (suc n)) e) k l p
       | no q ↦ subst (λ (m : ℕ). f m ≡ true) (omega (arith, lt-of-not-le q)) (and-right (allUpTo n f) (f (suc n)) e)
     ]
+
+-- a test, and then one of each number up to i
+unfoldable pub testedUpTo : Bool → (ℕ → Bool) → ℕ → Bool
+testedUpTo a f i = a && allUpTo i f
+
+pub none-tested : (a : Bool) (f : ℕ → Bool) → a ≡ testedUpTo a f 0
+unfolding testedUpTo allUpTo
+none-tested a f = sym (and-true a)
+
+pub one-more : (a : Bool) (f : ℕ → Bool) (i : ℕ) (ok next m : Bool) → ok ≡ testedUpTo a f i → next ≡ (ok && m) → m ≡ f (i + 1)
+    → next ≡ testedUpTo a f (i + 1)
+unfolding testedUpTo
+one-more a f i ok next m so-far both test = rw (all-more, ← and-assoc, ← so-far, ← test) both
 
 -- ---- lists
 -- each element of a list
@@ -183,6 +200,32 @@ pub put-past : {A : Type 0} (l : List A) (k : ℕ) (a : A) → length l < k → 
 unfolding put
 put-past l zero a h = refl
 put-past l (suc k) a h = set-out l k a (le-of-suc-le-suc h)
+
+-- each element of the list with a put in at k
+pub each-put : {A : Type 0} (P : ℕ → A → Type 0) (l : List A) (k : ℕ) (a d : A) → (1 ≤ k → k ≤ length l → P k a) → ((j : ℕ) → P j (at l j d))
+    → (j : ℕ)
+    → P j (at (put l k a) j d)
+unfolding at put
+each-put P l zero a d new old j = old j
+each-put {A} P l (suc k) a d new old j =
+    by-number j (suc k)
+    (λ e.
+    subst (λ (i : ℕ). P i (at (put l (suc k) a) i d)) (sym e)
+    (elim (decLe (suc k) (length l)) [
+      | yes h ↦ subst (P (suc k)) (sym (at-put-same l (suc k) a d (omega arith) h)) (new (omega arith) h)
+      | no h ↦ subst (λ (m : List A). P (suc k) (at m (suc k) d)) (sym (put-past l (suc k) a (lt-of-not-le h))) (old (suc k))
+    ]))
+    (λ h. subst (P j) (sym (at-put-other l (suc k) j a d h)) (old j))
+
+-- an element replaced, and replaced again by what is made of it
+pub put-again : {A : Type 0} (l : List A) (k : ℕ) (a d : A) (f : A → A) → put (put l k a) k (f (at (put l k a) k d)) ≡ put l k (f a)
+unfolding put
+put-again l zero a d f = refl
+put-again l (suc k) a d f =
+    elim (decLe (suc k) (length l)) [
+      | yes high ↦ rw (at-put-same l (suc k) a d (omega arith) high) (set-set l k a (f a))
+      | no past ↦ set-out (set l k a) k _ (rw length-set (le-of-suc-le-suc (lt-of-not-le past))) ∙ set-out l k a (le-of-suc-le-suc (lt-of-not-le past)) ∙ sym (set-out l k (f a) (le-of-suc-le-suc (lt-of-not-le past)))
+    ]
 
 -- ---- the element numbered k, as the code finds it
 place-in : (n k : ℕ) → placeOf n k < n → (1 ≤ k) × (k ≤ n) × (placeOf n k ≡ k - 1)

@@ -10,7 +10,7 @@ use lib.Dec.{eqb, leb}
 use lib.Bits.{bitAnd, bitOr, and-shr, or-shr, and-mod, or-mod}
 use Rattle.view.specs.Logic.{pick, isOneOf}
 use Rattle.view.specs.View.{has, within, subset, with}
-use Rattle.view.proofs.Laws.{and-left, and-right, and-intro, one-of, all-elim, or-cases, true-is-not-false}
+use Rattle.view.proofs.Laws.{and-left, and-right, and-intro, one-of, all-elim, all-intro, or-cases, true-is-not-false}
 use Rattle.view.proofs.Table.{everyBelow, below}
 
 -- a process that a view names has a number from 1 to 8
@@ -128,3 +128,18 @@ with-new v q l h = rw (with-is v q l h) (or-has v (2 ^ (q - 1)) q (inr (itself q
 
 pub with-old : (v q u : ℕ) → 1 ≤ q → q ≤ 8 → has v u ≡ true → has (with v q) u ≡ true
 with-old v q u l h e = rw (with-is v q l h) (or-has v (2 ^ (q - 1)) u (inl e))
+
+-- ---- views within 1 to n
+pub within-if : (n v : ℕ) → ((k : ℕ) → has v k ≡ true → k ≤ n) → within n v ≡ true
+unfolding within
+within-if n v h = all-intro 8 _ (λ k l u. go k (has v k) refl)
+  where
+    go : (k : ℕ) (t : Bool) → has v k ≡ t → (not t || leb k n) ≡ true
+    go k true e = le-leb k n (h k e)
+    go k false e = refl
+
+pub within-none : (n : ℕ) → within n 0 ≡ true
+within-none n = within-if n 0 (λ k e. absurd (has-none k e))
+
+pub within-with : (n v q : ℕ) → within n v ≡ true → 1 ≤ q → q ≤ n → q ≤ 8 → within n (with v q) ≡ true
+within-with n v q inside l h b = within-if n (with v q) (λ k e. ⊎-elim (has-inside n v k inside) (λ same. omega arith) (has-with v q k l b e))

@@ -11,6 +11,10 @@ unfoldable pub pick : {A : Type 0} → Bool → A → A → A
 pick true a b = a
 pick false a b = b
 
+-- a unless the test holds, and then b: refusals so read in the order of the refusal table
+abbrev pub unless : {A : Type 0} → Bool → A → A → A
+unless test a b = pick test b a
+
 -- the test holds of each of 1 to n
 unfoldable pub allUpTo : ℕ → (ℕ → Bool) → Bool
 allUpTo zero f = true

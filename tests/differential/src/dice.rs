@@ -106,11 +106,11 @@ impl Dice {
         }
     }
 
-    /// A step that is likelier to be done: rolled again a few times while it would be refused.
+    /// A step that is likelier to be done: rolled again a few times while there is nothing for it.
     pub fn likely_step(&mut self, system: &System, mix: Mix) -> Step {
         let mut step = self.step(system.n, mix);
         for _ in 0..self.roll(8) {
-            if step.run_on_sound(&mut system.clone()).is_ok() {
+            if something_there(system, step) {
                 break;
             }
             step = self.step(system.n, mix);
@@ -148,5 +148,22 @@ impl Dice {
             steps.extend([propose, Step::Receive { from: p, at: p }, take, answer].repeat(9));
         }
         steps
+    }
+}
+
+/// Is there a message to take, or a record to answer?
+fn something_there(system: &System, step: Step) -> bool {
+    let known = |p: ProcessId| (1..=system.n).contains(&p.0);
+    match step {
+        Step::Receive { from, at } => {
+            known(from) && known(at) && !system.channel(from, at).is_empty()
+        }
+        Step::Respond { p, to } => {
+            known(p) && known(to) && {
+                let process = system.process(p);
+                process.recorded(to).is_some_and(|proposal| proposal.view == process.view)
+            }
+        }
+        _ => true,
     }
 }

@@ -1,10 +1,12 @@
 //! What the differential test and the benchmark share: steps, sheets and images by chance, from a
-//! seed, and the ways to each number.
+//! seed, the ways to each number, and the benchmark's rival.
 
 pub mod dice;
 pub mod faults;
 pub mod lines;
+pub mod litter;
 pub mod poised;
+pub mod rival;
 pub mod ways;
 
 use reference::Step;

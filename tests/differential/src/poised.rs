@@ -15,7 +15,7 @@ pub fn disturb(dice: &mut Dice, system: &mut System) {
         0 => process.propout = if dice.one_in(2) { GroupIndex(32) } else { index },
         1 => process.next = GroupIndex(index.0 + 1),
         2 => process.acks = both,
-        3 => process.recorded[usize::from(q.0) - 1] = Some(proposal),
+        3 => process.set_recorded(q, Some(proposal)),
         4 => {
             process.propout = index;
             process.proposal = both;
@@ -68,7 +68,7 @@ pub fn poise(dice: &mut Dice, system: &mut System) -> Step {
         _ => {
             process.view = view;
             process.next = GroupIndex(dice.index().0 + 1);
-            process.recorded[usize::from(q.0) - 1] = Some(Proposal { view, index });
+            process.set_recorded(q, Some(Proposal { view, index }));
             Step::Respond { p, to: q }
         }
     };
@@ -88,22 +88,19 @@ fn crowd(dice: &mut Dice, system: &mut System, p: ProcessId) {
 }
 
 fn fill(channel: &mut Channel, message: Message) {
-    channel.slots[usize::from(channel.len).min(CAPACITY)..].fill(message);
-    channel.len = CAPACITY as u8;
+    channel.resize(CAPACITY, message);
 }
 
 fn set_first(channel: &mut Channel, message: Message) {
-    channel.slots[0] = message;
-    channel.len = channel.len.max(1);
+    channel.splice(..channel.len().min(1), [message]);
 }
 
 /// Puts the message last, or in the place of one that waits.
 pub fn put(dice: &mut Dice, channel: &mut Channel, message: Message) {
-    let len = usize::from(channel.len);
-    if len > 0 && (len >= CAPACITY || dice.one_in(2)) {
-        channel.slots[dice.roll(len.min(CAPACITY))] = message;
+    if !channel.is_empty() && (channel.len() >= CAPACITY || dice.one_in(2)) {
+        let place = dice.roll(channel.len());
+        channel[place] = message;
     } else {
-        channel.slots[len] = message;
-        channel.len += 1;
+        channel.push(message);
     }
 }

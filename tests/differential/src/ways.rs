@@ -2,7 +2,7 @@
 
 use crate::faults::{DAMAGES, FAULTS};
 use crate::lines::{FIRST, LATER};
-use reference::{Message, Process, ProcessId, Step, System, View};
+use reference::{Message, Process, ProcessId, Step, System, View, CAPACITY};
 use std::collections::{BTreeMap, BTreeSet};
 
 /// Each way is met at least so often, where it can be met at all.
@@ -59,7 +59,17 @@ const HANDED_IN: &[&str] =
     &["0 take, stale Acc completing", "0 take, Acc with nothing proposed", "7 Commit"];
 
 /// What images alone can show; FAULTS and DAMAGES too.
-const IMAGES: &[&str] = &["1 wrong length", "1 any bytes", "2 fresh"];
+const IMAGES: &[&str] = &[
+    "0 among stray bytes",
+    "refused among stray bytes",
+    "1 wrong length",
+    "1 any bytes",
+    "2 fresh",
+    "list of steps",
+    "list with too few places",
+    "8 unknown kind in a list",
+    "8 list that breaks off",
+];
 
 /// What sheets alone can show; FIRST and LATER too.
 const SHEETS: &[&str] = &[
@@ -179,16 +189,16 @@ pub fn way(before: &System, step: Step, number: u8) -> &'static str {
             None => "5 no record",
             Some(_) => "5 record of another view",
         },
-        (Step::Report { p, .. }, 6) => match before.channel(p, p).is_full() {
+        (Step::Report { p, .. }, 6) => match is_full(before, p, p) {
             true => "6 report, its line full",
             false => "6 report",
         },
-        (Step::Receive { from, at }, 6) => match from != at && before.channel(at, at).is_full() {
+        (Step::Receive { from, at }, 6) => match from != at && is_full(before, at, at) {
             true => "6 Retry, its line full",
             false => "6 Retry",
         },
         (Step::Report { .. }, 7) => "7 report",
-        (Step::Receive { from, at }, 7) => match before.channel(from, at).front() {
+        (Step::Receive { from, at }, 7) => match before.channel(from, at).first() {
             Some(Message::Retry { .. }) => "7 Retry",
             _ => "7 Commit",
         },
@@ -204,6 +214,10 @@ fn stranger(system: &System, p: ProcessId) -> bool {
     !(1..=system.n).contains(&p.0)
 }
 
+fn is_full(system: &System, from: ProcessId, to: ProcessId) -> bool {
+    system.channel(from, to).len() == CAPACITY
+}
+
 fn stopped(system: &System, p: ProcessId) -> bool {
     !stranger(system, p) && system.process(p).crashed
 }
@@ -217,7 +231,7 @@ fn least(view: View) -> ProcessId {
 }
 
 fn record(system: &System, p: ProcessId, from: ProcessId) -> Option<reference::Proposal> {
-    system.process(p).recorded[usize::from(from.0) - 1]
+    system.process(p).recorded(from)
 }
 
 fn accepts(system: &System, p: ProcessId, from: ProcessId) -> bool {
@@ -227,7 +241,7 @@ fn accepts(system: &System, p: ProcessId, from: ProcessId) -> bool {
 fn taken(before: &System, from: ProcessId, at: ProcessId) -> &'static str {
     let process: &Process = before.process(at);
     let complete = |marked: View| process.proposal.is_subset(marked);
-    match before.channel(from, at).front().expect("a message") {
+    match *before.channel(from, at).first().expect("a message") {
         _ if before.process(from).crashed => "0 take, from a stopped sender",
         Message::Propose(_) => "0 take, Propose",
         Message::Retry { old, .. } if old == process.propout && least(process.view) == at => {

@@ -1,56 +1,83 @@
-//! A system as a fixed run of bytes: n, eight processes, sixty-four channels.
+//! A system as a fixed run of bytes (docs/IMAGE.md has the layout). Bytes
+//! that mean nothing, such as those past the number of processes or past a
+//! channel's length, are not read, and are written as 0.
 
-use crate::channel::{Channel, CAPACITY};
 use crate::message::{GroupIndex, Message, Proposal};
-use crate::process::{Process, POSITIONS};
-use crate::system::{System, MAX_PROCESSES};
-use crate::view::View;
+use crate::process::Process;
+use crate::system::{System, CAPACITY};
+use crate::view::{ProcessId, View};
 
-const PROPOSAL_BYTES: usize = 3;
-const MESSAGE_BYTES: usize = 3;
-const RECORDED: usize = 6;
-const HISTORY: usize = RECORDED + MAX_PROCESSES * PROPOSAL_BYTES;
-const PROCESS_BYTES: usize = HISTORY + POSITIONS;
-const LENGTH: usize = CAPACITY * MESSAGE_BYTES;
-const CHANNEL_BYTES: usize = LENGTH + 1;
-const CHANNELS: usize = 1 + MAX_PROCESSES * PROCESS_BYTES;
-
-/// The size of an image: 2,097 bytes.
-pub const SIZE: usize = CHANNELS + MAX_PROCESSES * MAX_PROCESSES * CHANNEL_BYTES;
+/// The size of an image.
+pub const SIZE: usize = 2097;
 
 pub type Image = [u8; SIZE];
 
-/// Reads an image; None if it is damaged. What is read need not be sound.
-pub fn decode(image: &Image) -> Option<System> {
-    let mut system = System::initial(0);
-    system.n = image[0];
-    let processes = image[1..CHANNELS].chunks_exact(PROCESS_BYTES);
-    for (process, bytes) in system.processes.iter_mut().zip(processes) {
-        decode_process(process, bytes)?;
-    }
-    let channels = image[CHANNELS..].chunks_exact(CHANNEL_BYTES);
-    for (channel, bytes) in system.channels.iter_mut().flatten().zip(channels) {
-        decode_channel(channel, bytes)?;
-    }
-    Some(system)
+pub const PROCESS_BYTES: usize = 62;
+pub const CHANNEL_BYTES: usize = 25;
+
+/// Where process p begins, 1 to 8.
+pub fn process_at(p: ProcessId) -> usize {
+    1 + 62 * (usize::from(p.0) - 1)
 }
 
-/// Writes a system.
+/// Where, in a process, the proposal recorded from q is.
+pub fn record_in(q: ProcessId) -> usize {
+    6 + 3 * (usize::from(q.0) - 1)
+}
+
+/// Where, in a process, the entry at index i is.
+pub fn entry_in(i: GroupIndex) -> usize {
+    30 + (usize::from(i.0) - 1)
+}
+
+/// Where the channel from q to p begins.
+pub fn channel_at(q: ProcessId, p: ProcessId) -> usize {
+    497 + 200 * (usize::from(q.0) - 1) + 25 * (usize::from(p.0) - 1)
+}
+
+/// Where, in a channel, its length is.
+pub const LENGTH_IN: usize = 24;
+
+/// Reads the system that an image holds. Any bytes hold one; where a byte of
+/// it stands for nothing, it is unreadable and so not sound.
+pub fn decode(image: &Image) -> System {
+    let n = image[0];
+    let mut system = System::initial(if n <= 8 { n } else { 0 });
+    system.n = n;
+    if n > 8 {
+        return system;
+    }
+    for p in system.everyone().members() {
+        match decode_process(&image[process_at(p)..][..PROCESS_BYTES], n) {
+            Some(process) => *system.process_mut(p) = process,
+            None => system.unreadable = true,
+        }
+    }
+    for (q, p) in system.pairs() {
+        match decode_channel(&image[channel_at(q, p)..][..CHANNEL_BYTES]) {
+            Some(channel) => *system.channel_mut(q, p) = channel,
+            None => system.unreadable = true,
+        }
+    }
+    system
+}
+
+/// Writes a system of at most eight processes, with channels of at most eight
+/// messages.
 pub fn encode(system: &System) -> Image {
     let mut image = [0; SIZE];
     image[0] = system.n;
-    let processes = image[1..CHANNELS].chunks_exact_mut(PROCESS_BYTES);
-    for (process, bytes) in system.processes.iter().zip(processes) {
-        encode_process(process, bytes);
+    for p in system.everyone().members() {
+        encode_process(system.process(p), &mut image[process_at(p)..][..PROCESS_BYTES]);
     }
-    let channels = image[CHANNELS..].chunks_exact_mut(CHANNEL_BYTES);
-    for (channel, bytes) in system.channels.iter().flatten().zip(channels) {
-        encode_channel(channel, bytes);
+    for (q, p) in system.pairs() {
+        encode_channel(system.channel(q, p), &mut image[channel_at(q, p)..][..CHANNEL_BYTES]);
     }
     image
 }
 
-fn decode_process(process: &mut Process, bytes: &[u8]) -> Option<()> {
+fn decode_process(bytes: &[u8], n: u8) -> Option<Process> {
+    let mut process = Process::initial(View::EMPTY);
     process.crashed = match bytes[0] {
         0 => false,
         1 => true,
@@ -61,66 +88,70 @@ fn decode_process(process: &mut Process, bytes: &[u8]) -> Option<()> {
     process.propout = GroupIndex(bytes[3]);
     process.proposal = View(bytes[4]);
     process.acks = View(bytes[5]);
-    let recorded = bytes[RECORDED..HISTORY].chunks_exact(PROPOSAL_BYTES);
-    for (recorded, bytes) in process.recorded.iter_mut().zip(recorded) {
-        *recorded = match bytes[0] {
-            0 => None,
-            1 => Some(proposal(bytes[1], bytes[2])),
-            _ => return None,
-        };
+    for q in (1..=n).map(ProcessId) {
+        let record = &bytes[record_in(q)..][..3];
+        process.set_recorded(
+            q,
+            match record[0] {
+                0 => None,
+                1 => Some(proposal(record[1], record[2])),
+                _ => return None,
+            },
+        );
     }
-    for (view, &byte) in process.history.iter_mut().zip(&bytes[HISTORY..]) {
-        *view = View(byte);
+    for i in (1..=32).map(GroupIndex) {
+        process.set_entry(i, View(bytes[entry_in(i)]));
     }
-    Some(())
+    Some(process)
 }
 
 fn encode_process(process: &Process, bytes: &mut [u8]) {
-    bytes[0] = process.crashed.into();
+    bytes[0] = if process.crashed { 1 } else { 0 };
     bytes[1] = process.view.0;
     bytes[2] = process.next.0;
     bytes[3] = process.propout.0;
     bytes[4] = process.proposal.0;
     bytes[5] = process.acks.0;
-    let recorded = bytes[RECORDED..HISTORY].chunks_exact_mut(PROPOSAL_BYTES);
-    for (recorded, bytes) in process.recorded.iter().zip(recorded) {
-        bytes.copy_from_slice(&match recorded {
-            None => [0, 0, 0],
-            Some(proposal) => [1, proposal.view.0, proposal.index.0],
-        });
+    for q in (1..=8).map(ProcessId) {
+        if let Some(Proposal { view, index }) = process.recorded(q) {
+            bytes[record_in(q)..][..3].copy_from_slice(&[1, view.0, index.0]);
+        }
     }
-    for (view, byte) in process.history.iter().zip(&mut bytes[HISTORY..]) {
-        *byte = view.0;
+    for (i, view) in process.entries() {
+        bytes[entry_in(i)] = view.0;
     }
 }
 
-fn decode_channel(channel: &mut Channel, bytes: &[u8]) -> Option<()> {
-    let slots = bytes[..LENGTH].chunks_exact(MESSAGE_BYTES);
-    for (slot, bytes) in channel.slots.iter_mut().zip(slots) {
-        let (first, second) = (bytes[1], bytes[2]);
-        *slot = match bytes[0] {
-            0 => Message::Propose(proposal(first, second)),
-            1 => Message::Retry { old: GroupIndex(first), new: GroupIndex(second) },
-            2 => Message::Acc(GroupIndex(first)),
-            3 => Message::Commit(proposal(first, second)),
-            _ => return None,
-        };
+/// None also for a channel that says it holds more than it has room for.
+fn decode_channel(bytes: &[u8]) -> Option<Vec<Message>> {
+    let length = usize::from(bytes[LENGTH_IN]);
+    if length > CAPACITY {
+        return None;
     }
-    channel.len = bytes[LENGTH];
-    Some(())
+    let slots = bytes.chunks(3).take(length);
+    slots.map(|slot| decode_message(slot[0], slot[1], slot[2])).collect()
 }
 
-fn encode_channel(channel: &Channel, bytes: &mut [u8]) {
-    let slots = bytes[..LENGTH].chunks_exact_mut(MESSAGE_BYTES);
-    for (slot, bytes) in channel.slots.iter().zip(slots) {
-        bytes.copy_from_slice(&match *slot {
-            Message::Propose(proposal) => [0, proposal.view.0, proposal.index.0],
+fn decode_message(tag: u8, first: u8, second: u8) -> Option<Message> {
+    match tag {
+        0 => Some(Message::Propose(proposal(first, second))),
+        1 => Some(Message::Retry { old: GroupIndex(first), new: GroupIndex(second) }),
+        2 => Some(Message::Acc(GroupIndex(first))),
+        3 => Some(Message::Commit(proposal(first, second))),
+        _ => None,
+    }
+}
+
+fn encode_channel(channel: &[Message], bytes: &mut [u8]) {
+    bytes[LENGTH_IN] = channel.len() as u8;
+    for (message, slot) in channel.iter().zip(bytes.chunks_mut(3)) {
+        slot.copy_from_slice(&match *message {
+            Message::Propose(Proposal { view, index }) => [0, view.0, index.0],
             Message::Retry { old, new } => [1, old.0, new.0],
             Message::Acc(index) => [2, index.0, 0],
-            Message::Commit(proposal) => [3, proposal.view.0, proposal.index.0],
+            Message::Commit(Proposal { view, index }) => [3, view.0, index.0],
         });
     }
-    bytes[LENGTH] = channel.len;
 }
 
 fn proposal(view: u8, index: u8) -> Proposal {

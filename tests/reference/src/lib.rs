@@ -1,14 +1,14 @@
 //! The group membership algorithm of Franceschetti and Bruck (Figure 3), on
-//! channels of eight messages and histories of thirty-two positions.
+//! channels of eight messages and histories of thirty-two positions: an
+//! oracle, written from the papers alone, sentence by sentence. Where a
+//! sentence of document 01 says what a line does, it stands beside it.
 //!
 //! The words here are the paper's. Document 01 says unit for process, line
 //! for channel, position for group index, table for system; take for
 //! receive, answer for respond, stop for crash.
 
-pub mod algorithm;
 pub mod image;
 
-mod channel;
 mod message;
 mod process;
 mod refusal;
@@ -18,12 +18,11 @@ mod step;
 mod system;
 mod view;
 
-pub use channel::{Channel, CAPACITY};
 pub use message::{GroupIndex, Message, Proposal, LAST_INDEX};
 pub use process::{Process, POSITIONS};
 pub use refusal::{number, Outcome, Refusal};
-pub use sheet::{run_sheet, run_sheet_onto, SHEET_LIMIT};
+pub use sheet::{run_sheet, SHEET_LIMIT};
 pub use soundness::sound;
 pub use step::{crash, receive, report, respond, Step};
-pub use system::{fresh, System, MAX_PROCESSES};
+pub use system::{fresh, Channel, System, CAPACITY, MAX_PROCESSES};
 pub use view::{ProcessId, View};

@@ -6,20 +6,8 @@ use crate::view::View;
 pub const LAST_INDEX: u8 = 32;
 
 /// A position in a history (document 01: position), the first being 1.
-#[derive(Clone, Copy, Debug, PartialEq, Eq, PartialOrd, Ord)]
+#[derive(Clone, Copy, Debug, PartialEq, Eq, PartialOrd, Ord, Hash)]
 pub struct GroupIndex(pub u8);
-
-impl GroupIndex {
-    /// The place in an array of positions. Only for indices from 1 on.
-    pub(crate) fn slot(self) -> usize {
-        usize::from(self.0) - 1
-    }
-
-    /// The index after this one. Only for indices up to 254.
-    pub(crate) fn successor(self) -> GroupIndex {
-        GroupIndex(self.0 + 1)
-    }
-}
 
 /// A view proposed at a group index.
 #[derive(Clone, Copy, Debug, PartialEq, Eq)]
@@ -34,10 +22,4 @@ pub enum Message {
     Retry { old: GroupIndex, new: GroupIndex },
     Acc(GroupIndex),
     Commit(Proposal),
-}
-
-impl Message {
-    /// What stands in a channel's unused slots.
-    pub const BLANK: Message =
-        Message::Propose(Proposal { view: View::EMPTY, index: GroupIndex(0) });
 }

@@ -2,7 +2,7 @@
 
 use crate::message::{GroupIndex, Proposal};
 use crate::system::MAX_PROCESSES;
-use crate::view::View;
+use crate::view::{ProcessId, View};
 
 /// Positions in a history.
 pub const POSITIONS: usize = 32;
@@ -21,26 +21,50 @@ pub struct Process {
     pub proposal: View,
     /// Who has acknowledged that proposal.
     pub acks: View,
-    /// The recorded proposal of each process, if any.
-    pub recorded: [Option<Proposal>; MAX_PROCESSES],
-    /// The global views; an empty view is an empty position.
-    pub history: [View; POSITIONS],
+    recorded: [Option<Proposal>; MAX_PROCESSES],
+    history: [View; POSITIONS],
 }
 
 impl Process {
-    /// A process that starts in the given view.
-    pub fn initial(view: View) -> Process {
-        let mut history = [View::EMPTY; POSITIONS];
-        history[0] = view;
-        Process {
+    /// "every local view and every entry at position 1 is the set of all n;
+    /// other positions are empty; Next is 2, PropOut 1, the last proposed
+    /// view empty; no acknowledgement, recorded proposal or message."
+    pub fn initial(everyone: View) -> Process {
+        let mut process = Process {
             crashed: false,
-            view,
+            view: everyone,
             next: GroupIndex(2),
             propout: GroupIndex(1),
             proposal: View::EMPTY,
             acks: View::EMPTY,
             recorded: [None; MAX_PROCESSES],
-            history,
-        }
+            history: [View::EMPTY; POSITIONS],
+        };
+        process.set_entry(GroupIndex(1), everyone);
+        process
+    }
+
+    /// The proposal recorded from q, 1 to 8, if there is one.
+    pub fn recorded(&self, q: ProcessId) -> Option<Proposal> {
+        self.recorded[usize::from(q.0) - 1]
+    }
+
+    pub fn set_recorded(&mut self, q: ProcessId, proposal: Option<Proposal>) {
+        self.recorded[usize::from(q.0) - 1] = proposal;
+    }
+
+    /// The global view at index i, 1 to 32; the empty view is the empty
+    /// position.
+    pub fn entry(&self, i: GroupIndex) -> View {
+        self.history[usize::from(i.0) - 1]
+    }
+
+    pub fn set_entry(&mut self, i: GroupIndex, view: View) {
+        self.history[usize::from(i.0) - 1] = view;
+    }
+
+    /// The positions 1 to 32 with what stands there.
+    pub fn entries(&self) -> impl Iterator<Item = (GroupIndex, View)> + '_ {
+        (1..=POSITIONS as u8).map(GroupIndex).map(|i| (i, self.entry(i)))
     }
 }

@@ -1,27 +1,26 @@
 //! The refusal table of document 01.
 
 /// Why a step, or a line of a sheet, is refused.
-#[derive(Clone, Copy, Debug, PartialEq, Eq, PartialOrd, Ord)]
-#[repr(u8)]
+#[derive(Clone, Copy, Debug, PartialEq, Eq)]
 pub enum Refusal {
     /// The system is not sound.
-    Unsound = 1,
+    Unsound,
     /// A process number is not 1 to n, or a wrong n is asked for.
-    Stranger = 2,
+    Stranger,
     /// The process that would act has crashed (document 01: stopped).
-    Crashed = 3,
+    Crashed,
     /// A reported view names a stranger, or lacks the process itself.
-    OddView = 4,
+    OddView,
     /// Nothing to receive, or nothing to respond to.
-    NothingThere = 5,
+    NothingThere,
     /// No group index is left to propose.
-    HistoryFull = 6,
+    HistoryFull,
     /// A message of the step finds its channel full (document 01: line full).
-    ChannelFull = 7,
+    ChannelFull,
     /// A sheet line is not of a known form.
-    BadLine = 8,
+    BadLine,
     /// The sheet has too many bytes.
-    LongSheet = 9,
+    LongSheet,
 }
 
 /// What a step answers.
@@ -29,5 +28,24 @@ pub type Outcome = Result<(), Refusal>;
 
 /// The printed number: 0 for a step done.
 pub fn number(outcome: Outcome) -> u8 {
-    outcome.map_or_else(|refusal| refusal as u8, |()| 0)
+    match outcome {
+        Ok(()) => 0,
+        Err(Refusal::Unsound) => 1,
+        Err(Refusal::Stranger) => 2,
+        Err(Refusal::Crashed) => 3,
+        Err(Refusal::OddView) => 4,
+        Err(Refusal::NothingThere) => 5,
+        Err(Refusal::HistoryFull) => 6,
+        Err(Refusal::ChannelFull) => 7,
+        Err(Refusal::BadLine) => 8,
+        Err(Refusal::LongSheet) => 9,
+    }
+}
+
+/// Refuses where the case holds.
+pub(crate) fn refuse_if(case: bool, refusal: Refusal) -> Outcome {
+    match case {
+        true => Err(refusal),
+        false => Ok(()),
+    }
 }

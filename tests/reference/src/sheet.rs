@@ -2,132 +2,123 @@
 
 use crate::refusal::{number, Outcome, Refusal};
 use crate::step::Step;
-use crate::system::System;
+use crate::system::{fresh, System};
 use crate::view::{ProcessId, View};
 
-/// The most bytes a sheet may have.
+/// "a sheet of more than 60,000 bytes" is a long one.
 pub const SHEET_LIMIT: usize = 60_000;
 
 /// Runs a sheet and gives what is printed for it.
 pub fn run_sheet(sheet: &[u8]) -> Vec<u8> {
-    let mut out = Vec::with_capacity(2 * sheet.len().min(SHEET_LIMIT));
-    run_sheet_onto(&mut out, sheet);
+    printed(sheet).into_bytes()
+}
+
+fn printed(sheet: &[u8]) -> String {
+    // "A long sheet prints the single line `0 9`."
+    if sheet.len() > SHEET_LIMIT {
+        return outcome_line(0, Err(Refusal::LongSheet));
+    }
+    let lines = lines(sheet);
+    // "an empty sheet prints nothing"
+    let Some(first) = lines.first() else {
+        return String::new();
+    };
+    let mut out = String::new();
+    match size(first) {
+        Some(n) => {
+            let (_, mut system) = fresh(n);
+            for (line, line_number) in lines.iter().zip(1..).skip(1) {
+                let outcome = match step(line) {
+                    Some(step) => step.run(&mut system),
+                    None => Err(Refusal::BadLine),
+                };
+                out += &outcome_line(line_number, outcome);
+            }
+            for p in system.everyone().members() {
+                out += &process_line(&system, p);
+            }
+        }
+        // "Anything else, an empty line too, is refusal 8; if the first line
+        // is, so is every line after it."
+        None => {
+            for line_number in 1..=lines.len() {
+                out += &outcome_line(line_number, Err(Refusal::BadLine));
+            }
+        }
+    }
     out
 }
 
-/// The same, appended to what `out` has.
-pub fn run_sheet_onto(out: &mut Vec<u8>, sheet: &[u8]) {
-    if sheet.len() > SHEET_LIMIT {
-        print_outcome(out, 0, Err(Refusal::LongSheet));
-        return;
+/// "Lines end with a line feed, which the last may lack."
+fn lines(sheet: &[u8]) -> Vec<&[u8]> {
+    let mut lines: Vec<&[u8]> = sheet.split(|byte| *byte == b'\n').collect();
+    if lines.last().is_some_and(|last| last.is_empty()) {
+        lines.pop();
     }
-    let mut lines = lines(sheet).zip(1..);
-    let Some((first, _)) = lines.next() else {
-        return;
-    };
-    match parse_size(first) {
-        Some(n) => {
-            // A fresh system is sound and steps keep it so.
-            let mut system = System::initial(n);
-            for (line, line_number) in lines {
-                let outcome = match parse_step(line) {
-                    Some(step) => step.run_on_sound(&mut system),
-                    None => Err(Refusal::BadLine),
-                };
-                print_outcome(out, line_number, outcome);
-            }
-            print_processes(out, &system);
-        }
-        None => {
-            print_outcome(out, 1, Err(Refusal::BadLine));
-            for (_, line_number) in lines {
-                print_outcome(out, line_number, Err(Refusal::BadLine));
-            }
-        }
-    }
+    lines
 }
 
-/// The lines, without their line feeds; the last may lack its own.
-fn lines(sheet: &[u8]) -> impl Iterator<Item = &[u8]> {
-    sheet
-        .split_inclusive(|&byte| byte == b'\n')
-        .map(|line| line.strip_suffix(b"\n").unwrap_or(line))
+/// "Fields are parted by one space."
+fn fields(line: &[u8]) -> Vec<&[u8]> {
+    line.split(|byte| *byte == b' ').collect()
 }
 
-/// The first line, `u N`.
-fn parse_size(line: &[u8]) -> Option<u8> {
-    match line {
-        &[b'u', b' ', n @ b'1'..=b'8'] => Some(n - b'0'),
+/// "`u N` first and only first, N 1 to 8"
+fn size(line: &[u8]) -> Option<u8> {
+    match fields(line)[..] {
+        [b"u", n] => digit(n).filter(|n| (1..=8).contains(n)),
         _ => None,
     }
 }
 
-/// Any later line.
-fn parse_step(line: &[u8]) -> Option<Step> {
-    match *line {
-        [b'r', b' ', p, b' ', ref view @ ..] => {
-            Some(Step::Report { p: parse_process(p)?, view: parse_view(view)? })
-        }
-        [b't', b' ', q, b' ', p] => {
-            Some(Step::Receive { from: parse_process(q)?, at: parse_process(p)? })
-        }
-        [b'a', b' ', p, b' ', q] => {
-            Some(Step::Respond { p: parse_process(p)?, to: parse_process(q)? })
-        }
-        [b's', b' ', p] => Some(Step::Crash { p: parse_process(p)? }),
+/// "`r P VIEW`; `t Q P` (take, from Q at P); `a P Q` (P answers Q); `s P`"
+fn step(line: &[u8]) -> Option<Step> {
+    match fields(line)[..] {
+        [b"r", p, view] => Some(Step::Report { p: process(p)?, view: view_of(view)? }),
+        [b"t", q, p] => Some(Step::Receive { from: process(q)?, at: process(p)? }),
+        [b"a", p, q] => Some(Step::Respond { p: process(p)?, to: process(q)? }),
+        [b"s", p] => Some(Step::Crash { p: process(p)? }),
         _ => None,
     }
 }
 
-/// Any digit; one that names nobody is the step's own affair.
-fn parse_process(byte: u8) -> Option<ProcessId> {
-    byte.is_ascii_digit().then(|| ProcessId(byte - b'0'))
+/// "P and Q are one digit."
+fn process(field: &[u8]) -> Option<ProcessId> {
+    digit(field).map(ProcessId)
 }
 
-/// `-`, or digits 1 to 8 strictly rising.
-fn parse_view(field: &[u8]) -> Option<View> {
+fn digit(field: &[u8]) -> Option<u8> {
+    match field {
+        [byte @ b'0'..=b'9'] => Some(byte - b'0'),
+        _ => None,
+    }
+}
+
+/// "VIEW is `-` for the empty set, else digits 1 to 8 strictly rising."
+fn view_of(field: &[u8]) -> Option<View> {
     if field == b"-" {
         return Some(View::EMPTY);
     }
-    let (mut view, mut last) = (View::EMPTY, b'0');
-    for &digit in field {
-        if digit <= last || digit > b'8' {
-            return None;
-        }
-        view = view.with(ProcessId(digit - b'0'));
-        last = digit;
-    }
-    (!view.is_empty()).then_some(view)
+    let digits = field.iter().all(|byte| (b'1'..=b'8').contains(byte));
+    let rising = field.windows(2).all(|two| two[0] < two[1]);
+    let processes = field.iter().map(|byte| ProcessId(byte - b'0'));
+    (digits && rising && !field.is_empty()).then(|| processes.fold(View::EMPTY, View::with))
 }
 
-fn print_outcome(out: &mut Vec<u8>, line_number: u32, outcome: Outcome) {
-    print_number(out, line_number);
-    out.extend([b' ', b'0' + number(outcome), b'\n']);
+/// "its line number in the sheet, a space and the refusal number or 0"
+fn outcome_line(line_number: usize, outcome: Outcome) -> String {
+    format!("{line_number} {}\n", number(outcome))
 }
 
-fn print_processes(out: &mut Vec<u8>, system: &System) {
-    for p in system.everyone().members() {
-        let process = system.process(p);
-        out.extend_from_slice(b"unit ");
-        print_number(out, p.0.into());
-        out.extend_from_slice(if process.crashed { b" stopped next " } else { b" live next " });
-        print_number(out, process.next.0.into());
-        for (&view, index) in process.history.iter().zip(1..) {
-            if !view.is_empty() {
-                out.push(b' ');
-                print_number(out, index);
-                out.push(b'=');
-                out.extend(view.members().map(|q| b'0' + q.0));
-            }
-        }
-        out.push(b'\n');
+/// "`unit`, its number, `live` or `stopped`, `next`, Next, and for each
+/// non-empty position `position=view`"
+fn process_line(system: &System, p: ProcessId) -> String {
+    let process = system.process(p);
+    let life = if process.crashed { "stopped" } else { "live" };
+    let mut line = format!("unit {} {life} next {}", p.0, process.next.0);
+    for (i, view) in process.entries().filter(|(_, view)| !view.is_empty()) {
+        let digits: String = view.members().map(|q| q.0.to_string()).collect();
+        line += &format!(" {}={digits}", i.0);
     }
-}
-
-/// A number in decimal.
-fn print_number(out: &mut Vec<u8>, number: u32) {
-    if number >= 10 {
-        print_number(out, number / 10);
-    }
-    out.push(b'0' + (number % 10) as u8);
+    line + "\n"
 }

@@ -1,30 +1,11 @@
-//! The public steps: any system may be handed in, an unsound one is refused.
+//! The four steps. Each makes the next system from the one handed over, in
+//! the order of document 01's sentences, or is refused.
 
-use crate::algorithm;
-use crate::refusal::{Outcome, Refusal};
+use crate::message::{GroupIndex, Message, Proposal, LAST_INDEX};
+use crate::refusal::{refuse_if, Outcome, Refusal};
 use crate::soundness::sound;
-use crate::system::System;
+use crate::system::{System, CAPACITY};
 use crate::view::{ProcessId, View};
-
-/// Process p is told its local view.
-pub fn report(system: &mut System, p: ProcessId, view: View) -> Outcome {
-    Step::Report { p, view }.run(system)
-}
-
-/// Process `at` receives the oldest message of `from`.
-pub fn receive(system: &mut System, from: ProcessId, at: ProcessId) -> Outcome {
-    Step::Receive { from, at }.run(system)
-}
-
-/// Process p responds to the recorded proposal of `to`.
-pub fn respond(system: &mut System, p: ProcessId, to: ProcessId) -> Outcome {
-    Step::Respond { p, to }.run(system)
-}
-
-/// Process p stops for good.
-pub fn crash(system: &mut System, p: ProcessId) -> Outcome {
-    Step::Crash { p }.run(system)
-}
 
 /// One of the four steps.
 #[derive(Clone, Copy, Debug, PartialEq, Eq)]
@@ -49,22 +30,162 @@ pub enum Step {
     },
 }
 
+/// Process p is told its local view.
+pub fn report(system: &mut System, p: ProcessId, view: View) -> Outcome {
+    Step::Report { p, view }.run(system)
+}
+
+/// Process `at` receives the oldest message of `from`.
+pub fn receive(system: &mut System, from: ProcessId, at: ProcessId) -> Outcome {
+    Step::Receive { from, at }.run(system)
+}
+
+/// Process p responds to the recorded proposal of `to`.
+pub fn respond(system: &mut System, p: ProcessId, to: ProcessId) -> Outcome {
+    Step::Respond { p, to }.run(system)
+}
+
+/// Process p stops for good.
+pub fn crash(system: &mut System, p: ProcessId) -> Outcome {
+    Step::Crash { p }.run(system)
+}
+
 impl Step {
-    /// Does the step on any system.
+    /// Does the step. "A refused step returns the table it was handed."
     pub fn run(self, system: &mut System) -> Outcome {
-        if !sound(system) {
-            return Err(Refusal::Unsound);
-        }
-        self.run_on_sound(system)
+        *system = self.next(system)?;
+        Ok(())
     }
 
-    /// Does the step on a system known to be sound.
-    pub fn run_on_sound(self, system: &mut System) -> Outcome {
+    /// The next system; or "the lowest number that applies".
+    pub fn next(self, system: &System) -> Result<System, Refusal> {
+        let (actor, other) = match self {
+            Step::Report { p, .. } | Step::Crash { p } => (p, p),
+            Step::Receive { from, at } => (at, from),
+            Step::Respond { p, to } => (p, to),
+        };
+        let known = |p: ProcessId| (1..=system.n).contains(&p.0);
+        refuse_if(!sound(system), Refusal::Unsound)?;
+        refuse_if(!known(actor) || !known(other), Refusal::Stranger)?;
+        refuse_if(system.process(actor).crashed, Refusal::Crashed)?;
+        let after = system.clone();
         match self {
-            Step::Report { p, view } => algorithm::report(system, p, view),
-            Step::Receive { from, at } => algorithm::receive(system, from, at),
-            Step::Respond { p, to } => algorithm::respond(system, p, to),
-            Step::Crash { p } => algorithm::crash(system, p),
+            Step::Report { p, view } => reported(after, p, view),
+            Step::Receive { from, at } => received(after, from, at),
+            Step::Respond { p, to } => responded(after, p, to),
+            Step::Crash { p } => Ok(crashed(after, p)),
         }
     }
+}
+
+fn reported(mut after: System, p: ProcessId, view: View) -> Result<System, Refusal> {
+    let odd = !view.is_subset(after.everyone()) || !view.contains(p);
+    refuse_if(odd, Refusal::OddView)?;
+    let process = after.process_mut(p);
+    // "The local view becomes this view."
+    process.view = view;
+    // "If p is its least unit: .. Otherwise nothing else changes."
+    if view.min() != Some(p) {
+        return Ok(after);
+    }
+    refuse_if(process.propout.0 == LAST_INDEX, Refusal::HistoryFull)?;
+    // "PropOut rises by 1, the last proposed view becomes this view, the
+    // acknowledgements are cleared, and Propose(view, PropOut) goes to every
+    // unit of the view, p too."
+    let index = GroupIndex(process.propout.0 + 1);
+    process.propout = index;
+    process.proposal = view;
+    process.acks = View::EMPTY;
+    sent(after, p, view, Message::Propose(Proposal { view, index }))
+}
+
+fn received(mut after: System, q: ProcessId, p: ProcessId) -> Result<System, Refusal> {
+    refuse_if(after.channel(q, p).is_empty(), Refusal::NothingThere)?;
+    // "The oldest message on the line from q to p comes off."
+    let message = after.channel_mut(q, p).remove(0);
+    let process = after.process_mut(p);
+    match message {
+        // "recorded as q's proposal in place of any earlier one from q"
+        Message::Propose(proposal) => {
+            process.set_recorded(q, Some(proposal));
+            Ok(after)
+        }
+        // "if old is PropOut and p is the least unit of its local view,
+        // PropOut becomes new, acknowledgements are cleared, Propose(local
+        // view, new) goes to every unit of the local view. The last proposed
+        // view is not touched .. Otherwise ignored."
+        Message::Retry { old, new } => {
+            if old != process.propout || process.view.min() != Some(p) {
+                return Ok(after);
+            }
+            refuse_if(new.0 == LAST_INDEX + 1, Refusal::HistoryFull)?;
+            process.propout = new;
+            process.acks = View::EMPTY;
+            let view = process.view;
+            sent(after, p, view, Message::Propose(Proposal { view, index: new }))
+        }
+        // "if i is PropOut, q is marked as acknowledged. Then, stale or not,
+        // if the last proposed view is not empty and all its units are
+        // marked, Commit(that view, PropOut) goes to each of them and the
+        // marks are cleared."
+        Message::Acc(i) => {
+            if i == process.propout {
+                process.acks = process.acks.with(q);
+            }
+            let (view, index) = (process.proposal, process.propout);
+            if view.is_empty() || !view.is_subset(process.acks) {
+                return Ok(after);
+            }
+            process.acks = View::EMPTY;
+            sent(after, p, view, Message::Commit(Proposal { view, index }))
+        }
+        // "position i at p becomes that view"
+        Message::Commit(Proposal { view, index }) => {
+            process.set_entry(index, view);
+            Ok(after)
+        }
+    }
+}
+
+fn responded(mut after: System, p: ProcessId, q: ProcessId) -> Result<System, Refusal> {
+    let process = after.process_mut(p);
+    // "p has a recorded proposal from q whose view equals p's local view."
+    let Some(Proposal { view, index }) = process.recorded(q) else {
+        return Err(Refusal::NothingThere);
+    };
+    refuse_if(view != process.view, Refusal::NothingThere)?;
+    // "The record is cleared."
+    process.set_recorded(q, None);
+    // "If its position is below Next, Retry(that position, Next) goes to q.
+    // Otherwise Next becomes that position + 1 and Acc(that position) goes
+    // to q"
+    let reply = if index < process.next {
+        Message::Retry { old: index, new: process.next }
+    } else {
+        process.next = GroupIndex(index.0 + 1);
+        Message::Acc(index)
+    };
+    sent(after, p, View::only(q), reply)
+}
+
+/// "p is stopped for good. Every line towards p is emptied; lines from p
+/// keep their messages."
+fn crashed(mut after: System, p: ProcessId) -> System {
+    after.process_mut(p).crashed = true;
+    for q in after.everyone().members() {
+        after.channel_mut(q, p).clear();
+    }
+    after
+}
+
+/// The message goes from p to each process of the view. "A message sent to a
+/// stopped unit vanishes and needs no room." All that the step takes off a
+/// channel has come off: "Room is counted after the taken message has come
+/// off."
+fn sent(mut after: System, p: ProcessId, to: View, message: Message) -> Result<System, Refusal> {
+    for q in to.members().filter(|q| !after.process(*q).crashed).collect::<Vec<_>>() {
+        refuse_if(after.channel(p, q).len() == CAPACITY, Refusal::ChannelFull)?;
+        after.channel_mut(p, q).push(message);
+    }
+    Ok(after)
 }

@@ -1,6 +1,5 @@
-//! The whole system (document 01: table), and sending within it.
+//! The whole system (document 01: table).
 
-use crate::channel::Channel;
 use crate::message::Message;
 use crate::process::Process;
 use crate::refusal::{Outcome, Refusal};
@@ -9,18 +8,27 @@ use crate::view::{ProcessId, View};
 /// The most processes a system can have.
 pub const MAX_PROCESSES: usize = 8;
 
+/// How many messages a channel holds.
+pub const CAPACITY: usize = 8;
+
+/// The messages that wait, the oldest first.
+pub type Channel = Vec<Message>;
+
 #[derive(Clone, Debug, PartialEq, Eq)]
 pub struct System {
     /// The number of processes.
     pub n: u8,
-    /// Process p is in slot p - 1. Those past n play no part.
-    pub processes: [Process; MAX_PROCESSES],
-    /// The channel from p to q is `channels[p - 1][q - 1]`.
-    pub channels: [[Channel; MAX_PROCESSES]; MAX_PROCESSES],
+    /// Was it read from an image with a byte, within the table, that stands
+    /// for nothing?
+    pub unreadable: bool,
+    /// Process p is at p - 1; there are n of them.
+    processes: Vec<Process>,
+    /// The channel from q to p is at q - 1, and there at p - 1.
+    channels: Vec<Vec<Channel>>,
 }
 
-/// A fresh system of n processes. Any n but 1 to 8 is refused, and then the
-/// system has no processes.
+/// "A request for n outside 1 to 8 gives refusal 2 and a table of zero
+/// units."
 pub fn fresh(n: u8) -> (Outcome, System) {
     match n {
         1..=8 => (Ok(()), System::initial(n)),
@@ -29,12 +37,14 @@ pub fn fresh(n: u8) -> (Outcome, System) {
 }
 
 impl System {
-    /// The first state of n processes, all eight slots filled alike.
+    /// The first state of n processes, n being at most 8.
     pub(crate) fn initial(n: u8) -> System {
+        let there = usize::from(n);
         System {
             n,
-            processes: [Process::initial(View::first(n)); MAX_PROCESSES],
-            channels: [[Channel::EMPTY; MAX_PROCESSES]; MAX_PROCESSES],
+            unreadable: false,
+            processes: vec![Process::initial(View::first(n)); there],
+            channels: vec![vec![Channel::new(); there]; there],
         }
     }
 
@@ -43,41 +53,27 @@ impl System {
         View::first(self.n)
     }
 
-    /// The state of a process from 1 to 8; panics for any other number.
+    /// Every ordered pair of processes, one and itself included.
+    pub fn pairs(&self) -> impl Iterator<Item = (ProcessId, ProcessId)> {
+        let everyone = self.everyone();
+        everyone.members().flat_map(move |q| everyone.members().map(move |p| (q, p)))
+    }
+
+    /// The state of a process from 1 to n; panics for any other number.
     pub fn process(&self, p: ProcessId) -> &Process {
-        &self.processes[p.slot()]
+        &self.processes[usize::from(p.0) - 1]
     }
 
     pub fn process_mut(&mut self, p: ProcessId) -> &mut Process {
-        &mut self.processes[p.slot()]
+        &mut self.processes[usize::from(p.0) - 1]
     }
 
-    /// The channel between two processes from 1 to 8; panics for others.
+    /// The channel between two processes from 1 to n; panics for others.
     pub fn channel(&self, from: ProcessId, to: ProcessId) -> &Channel {
-        &self.channels[from.slot()][to.slot()]
+        &self.channels[usize::from(from.0) - 1][usize::from(to.0) - 1]
     }
 
     pub fn channel_mut(&mut self, from: ProcessId, to: ProcessId) -> &mut Channel {
-        &mut self.channels[from.slot()][to.slot()]
-    }
-
-    /// Is there room for one message to each process of the view? A crashed
-    /// one needs none.
-    pub(crate) fn require_room(&self, from: ProcessId, to: View) -> Outcome {
-        let blocked = |q: ProcessId| !self.process(q).crashed && self.channel(from, q).is_full();
-        if to.members().any(blocked) {
-            return Err(Refusal::ChannelFull);
-        }
-        Ok(())
-    }
-
-    /// Sends a message to each process of the view, where there is room. To
-    /// a crashed process it vanishes.
-    pub(crate) fn broadcast(&mut self, from: ProcessId, to: View, message: Message) {
-        for q in to.members() {
-            if !self.process(q).crashed {
-                self.channel_mut(from, q).push(message);
-            }
-        }
+        &mut self.channels[usize::from(from.0) - 1][usize::from(to.0) - 1]
     }
 }

@@ -1,80 +1,57 @@
 //! Process numbers and sets of processes.
 
-/// A process's number (document 01: unit), the first being 1. Any byte may
-/// be handed in; one outside 1 to n is a stranger.
-#[derive(Clone, Copy, Debug, PartialEq, Eq, PartialOrd, Ord)]
+/// A process's number (document 01: unit). Any byte may be handed in; one
+/// outside 1 to n is a stranger.
+#[derive(Clone, Copy, Debug, PartialEq, Eq, PartialOrd, Ord, Hash)]
 pub struct ProcessId(pub u8);
 
-impl ProcessId {
-    /// The place in an array of processes. Only for numbers from 1 on.
-    pub(crate) fn slot(self) -> usize {
-        usize::from(self.0) - 1
-    }
-}
-
-/// A set of processes, process 1 being the lowest bit.
-#[derive(Clone, Copy, Debug, PartialEq, Eq)]
+/// "A view is a set of units, kept as one byte: unit 1 is the lowest bit."
+#[derive(Clone, Copy, Debug, PartialEq, Eq, PartialOrd, Ord, Hash)]
 pub struct View(pub u8);
 
 impl View {
     pub const EMPTY: View = View(0);
 
-    /// Processes 1 to n; all eight for any larger n.
+    /// Processes 1 to n, n being at most 8.
     pub fn first(n: u8) -> View {
-        match n {
-            0..=7 => View((1 << n) - 1),
-            _ => View(u8::MAX),
-        }
+        (1..=n).map(ProcessId).fold(View::EMPTY, View::with)
     }
 
-    /// The one process, or nobody for a number that no view can hold.
     pub fn only(p: ProcessId) -> View {
-        match p.0 {
-            1..=8 => View(1 << (p.0 - 1)),
-            _ => View::EMPTY,
-        }
-    }
-
-    pub fn is_empty(self) -> bool {
-        self.0 == 0
+        View::EMPTY.with(p)
     }
 
     pub fn contains(self, p: ProcessId) -> bool {
-        self.0 & View::only(p).0 != 0
+        self.with(p) == self && (1..=8).contains(&p.0)
     }
 
-    pub fn is_subset(self, other: View) -> bool {
-        self.0 & !other.0 == 0
-    }
-
-    pub fn union(self, other: View) -> View {
-        View(self.0 | other.0)
-    }
-
+    /// The view and p, or the view itself for a number that no view holds.
     pub fn with(self, p: ProcessId) -> View {
-        self.union(View::only(p))
+        match p.0 {
+            1..=8 => View(self.0 | 1 << (p.0 - 1)),
+            _ => self,
+        }
     }
 
     pub fn without(self, p: ProcessId) -> View {
-        View(self.0 & !View::only(p).0)
-    }
-
-    /// The least process, if there is any.
-    pub fn min(self) -> Option<ProcessId> {
-        if self.is_empty() {
-            None
-        } else {
-            Some(ProcessId(self.0.trailing_zeros() as u8 + 1))
-        }
+        self.members().filter(|q| *q != p).fold(View::EMPTY, View::with)
     }
 
     /// The processes of the view, rising.
     pub fn members(self) -> impl Iterator<Item = ProcessId> {
-        let mut rest = self;
-        std::iter::from_fn(move || {
-            let least = rest.min()?;
-            rest = View(rest.0 & (rest.0 - 1));
-            Some(least)
-        })
+        (1..=8).map(ProcessId).filter(move |p| self.contains(*p))
+    }
+
+    pub fn is_empty(self) -> bool {
+        self == View::EMPTY
+    }
+
+    pub fn is_subset(self, other: View) -> bool {
+        self.members().all(|p| other.contains(p))
+    }
+
+    /// The least process, if there is any.
+    pub fn min(self) -> Option<ProcessId> {
+        self.members().next()
     }
 }

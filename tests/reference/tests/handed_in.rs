@@ -59,7 +59,7 @@ fn retry_sends_the_local_view() {
     assert_eq!(receive(&mut system, id(2), id(1)), Ok(()));
     let process = system.process(id(1));
     assert_eq!((process.proposal, process.acks), (View(1), View::EMPTY));
-    assert_eq!(process.propout, GroupIndex(9));
+    assert_eq!(process.propout, index(9));
     assert_eq!(waiting(&system, 1, 1), [propose(3, 9)]);
     assert_eq!(waiting(&system, 1, 2), [propose(3, 9)]);
 }
@@ -80,10 +80,10 @@ fn commit_carries_the_last_proposed_view() {
 #[test]
 fn commit_overwrites() {
     let mut system = system(2);
-    system.process_mut(id(1)).history[3] = View(1);
+    system.process_mut(id(1)).set_entry(index(4), View(1));
     put(&mut system, 2, 1, &[commit(3, 4)]);
     assert_eq!(receive(&mut system, id(2), id(1)), Ok(()));
-    assert_eq!(system.process(id(1)).history[3], View(3));
+    assert_eq!(system.process(id(1)).entry(index(4)), View(3));
 }
 
 #[test]
@@ -94,8 +94,8 @@ fn newer_proposal_replaces_older() {
     assert_eq!(receive(&mut system, id(1), id(2)), Ok(()));
     assert_eq!(respond(&mut system, id(2), id(1)), Ok(()));
     assert_eq!(waiting(&system, 2, 1), [acc(3)]);
-    assert_eq!(system.process(id(2)).next, GroupIndex(4));
-    assert_eq!(system.process(id(2)).recorded[0], None);
+    assert_eq!(system.process(id(2)).next, index(4));
+    assert_eq!(system.process(id(2)).recorded(id(1)), None);
 }
 
 #[test]
@@ -103,10 +103,8 @@ fn crash_empties_towards_only() {
     let mut system = system(2);
     put(&mut system, 1, 2, &[propose(3, 2)]);
     put(&mut system, 2, 1, &[acc(2)]);
-    put(&mut system, 7, 2, &[acc(2)]);
     assert_eq!(crash(&mut system, id(2)), Ok(()));
-    assert_eq!(*system.channel(id(1), id(2)), Channel::EMPTY);
-    assert_eq!(*system.channel(id(7), id(2)), Channel::EMPTY);
+    assert_eq!(waiting(&system, 1, 2), []);
     assert_eq!(waiting(&system, 2, 1), [acc(2)]);
     // A message of a crashed process is still received.
     assert_eq!(receive(&mut system, id(2), id(1)), Ok(()));
@@ -115,25 +113,12 @@ fn crash_empties_towards_only() {
 #[test]
 fn messages_to_the_crashed_vanish() {
     let mut system = system(2);
-    system.process_mut(id(1)).recorded[1] = Some(at(3, 4));
+    system.process_mut(id(1)).set_recorded(id(2), Some(at(3, 4)));
     assert_eq!(crash(&mut system, id(2)), Ok(()));
     assert_eq!(respond(&mut system, id(1), id(2)), Ok(()));
-    assert_eq!(system.process(id(1)).next, GroupIndex(5));
-    assert_eq!(system.process(id(1)).recorded[1], None);
+    assert_eq!(system.process(id(1)).next, index(5));
+    assert_eq!(system.process(id(1)).recorded(id(2)), None);
     assert_eq!(report(&mut system, id(1), View(3)), Ok(()));
     assert_eq!(waiting(&system, 1, 1), [propose(3, 2)]);
-    assert_eq!(*system.channel(id(1), id(2)), Channel::EMPTY);
-}
-
-#[test]
-fn unused_slots_move_up() {
-    let mut system = system(1);
-    let channel = system.channel_mut(id(1), id(1));
-    channel.slots = [2, 3, 4, 5, 6, 7, 8, 9].map(acc);
-    channel.len = 1;
-    assert_eq!(receive(&mut system, id(1), id(1)), Ok(()));
-    let channel = system.channel(id(1), id(1));
-    assert_eq!(channel.slots[..7], [3, 4, 5, 6, 7, 8, 9].map(acc));
-    assert_eq!(channel.slots[7], Message::BLANK);
-    assert_eq!(channel.len, 0);
+    assert_eq!(waiting(&system, 1, 2), []);
 }

@@ -1,10 +1,12 @@
-//! Random steps from fresh systems, and random damage.
+//! Random steps from fresh systems: soundness is kept, and demand 3 holds,
+//! told from the steps alone.
 
 mod common;
 
 use common::*;
-use reference::image::{decode, encode, SIZE};
+use reference::image::{decode, encode, Image, SIZE};
 use reference::*;
+use std::collections::BTreeSet;
 
 /// A small generator (xorshift), and how many steps in a hundred it reports.
 struct Dice {
@@ -33,7 +35,7 @@ impl Dice {
     fn likely_step(&mut self, system: &System) -> Step {
         let mut step = self.step(system.n);
         for _ in 0..self.roll(6) {
-            if step.run_on_sound(&mut system.clone()).is_ok() {
+            if step.next(system).is_ok() {
                 break;
             }
             step = self.step(system.n);
@@ -58,17 +60,44 @@ impl Dice {
     }
 }
 
-/// No two processes have different views with a common process anywhere.
-fn consistent(system: &System) -> bool {
-    let processes = &system.processes[..usize::from(system.n)];
-    (0..POSITIONS).all(|i| {
-        processes.iter().all(|a| {
-            processes.iter().all(|b| {
-                let (a, b) = (a.history[i], b.history[i]);
-                a == b || a.0 & b.0 == 0
-            })
-        })
-    })
+/// Who has accepted which view where.
+type Accepted = BTreeSet<(ProcessId, View, GroupIndex)>;
+
+/// What a step done on this system accepts: an answer to a proposal that is
+/// not below Next.
+fn accepts(system: &System, step: Step) -> Option<(ProcessId, View, GroupIndex)> {
+    let Step::Respond { p, to } = step else { return None };
+    let Proposal { view, index } = system.process(p).recorded(to)?;
+    (index >= system.process(p).next).then_some((p, view, index))
+}
+
+/// Demand 3: the written entries are those of some agreements, made lowest
+/// position first; two at one position share no process.
+fn book_holds(system: &System, accepted: &Accepted) {
+    for i in (2..=32).map(index) {
+        let holders =
+            |view| system.everyone().members().filter(move |p| system.process(*p).entry(i) == view);
+        let written: BTreeSet<View> =
+            system.everyone().members().map(|p| system.process(p).entry(i)).collect();
+        let mut taken = View::EMPTY;
+        for view in written.into_iter().filter(|view| !view.is_empty()) {
+            for p in view.members() {
+                assert!(accepted.contains(&(p, view, i)), "{p:?} accepted {view:?} at {i:?}");
+                assert!(!taken.contains(p), "{p:?} in two views at {i:?}");
+                taken = taken.with(p);
+            }
+            assert!(holders(view).all(|p| view.contains(p)), "{view:?} at {i:?} at a stranger");
+        }
+    }
+}
+
+/// An entry that is written stays as it is.
+fn entries_stay(before: &System, after: &System) {
+    for p in before.everyone().members() {
+        for (i, view) in before.process(p).entries().filter(|(_, view)| !view.is_empty()) {
+            assert_eq!(after.process(p).entry(i), view, "{p:?} at {i:?}");
+        }
+    }
 }
 
 #[test]
@@ -80,48 +109,61 @@ fn steps_from_fresh() {
         let n = 1 + (run % 8) as u8;
         dice.reports = [2, 10, 50][run % 3];
         let mut system = system(n);
+        let mut accepted = Accepted::new();
         for _ in 0..400 {
             let step = dice.likely_step(&system);
             let before = system.clone();
-            let mut twin = system.clone();
             let outcome = step.run(&mut system);
-            assert_eq!(step.run_on_sound(&mut twin), outcome);
-            assert_eq!(twin, system);
             assert!(sound(&system), "after {step:?}");
-            assert!(outcome.is_ok() || system == before);
-            assert!(consistent(&system));
+            assert!(outcome.is_err() || system != before || changes_nothing(&before, step));
+            accepted.extend(outcome.ok().and_then(|()| accepts(&before, step)));
+            entries_stay(&before, &system);
             seen[usize::from(number(outcome))] += 1;
         }
-        assert_eq!(decode(&encode(&system)), Some(system.clone()));
-        let filled = |p: &Process| p.history[1..].iter().any(|view| !view.is_empty());
-        written += system.processes[..n.into()].iter().filter(|p| filled(p)).count();
+        book_holds(&system, &accepted);
+        assert_eq!(decode(&encode(&system)), system);
+        let entries = system.everyone().members().flat_map(|p| system.process(p).entries());
+        written += entries.filter(|(i, view)| i.0 > 1 && !view.is_empty()).count();
     }
     // The runs reach every answer but 1, and commit views.
-    assert!(seen[0] > 0 && seen[1] == 0 && seen[2..].iter().all(|&count| count > 0));
-    assert!(written > 100, "{written}");
+    assert!(seen[0] > 0 && seen[1] == 0 && seen[2..].iter().all(|&count| count > 0), "{seen:?}");
+    assert!(written > 300, "{written}");
 }
 
+/// Only a report that proposes nothing, of the view that p has, is done and
+/// changes nothing.
+fn changes_nothing(system: &System, step: Step) -> bool {
+    matches!(step, Step::Report { p, view } if view.min() != Some(p) && system.process(p).view == view)
+}
+
+/// Some bytes of the image, changed.
+fn damage(dice: &mut Dice, image: &mut Image) {
+    for _ in 0..dice.roll(6) {
+        let place = usize::from(dice.roll(256)) * 256 + usize::from(dice.roll(256));
+        image[place % SIZE] = dice.roll(256);
+    }
+}
+
+/// On what is still sound, a step done leaves it sound.
 #[test]
 fn steps_on_damaged_images() {
     let mut dice = Dice { state: 12345, reports: 10 };
+    let mut seen = [0u32; 8];
     for run in 0..3000 {
         let n = 1 + (run % 8) as u8;
         let mut start = system(n);
         for _ in 0..run % 60 {
-            let _ = dice.likely_step(&start).run_on_sound(&mut start);
+            let _ = dice.likely_step(&start).run(&mut start);
         }
         let mut image = encode(&start);
-        for _ in 0..dice.roll(6) {
-            let place = usize::from(dice.roll(256)) * 256 + usize::from(dice.roll(256));
-            image[place % SIZE] = dice.roll(256);
-        }
-        let Some(system) = decode(&image) else { continue };
+        damage(&mut dice, &mut image);
+        let system = decode(&image);
         for _ in 0..20 {
             let mut after = system.clone();
             let outcome = dice.step(n).run(&mut after);
-            assert_eq!(outcome == Err(Refusal::Unsound), !sound(&system));
-            assert!(outcome.is_ok() || after == system);
             assert!(outcome.is_err() || sound(&after));
+            seen[usize::from(number(outcome))] += 1;
         }
     }
+    assert!(seen[..6].iter().all(|&count| count > 100), "{seen:?}");
 }

@@ -1,15 +1,19 @@
-//! Every refusal of a step, its order, and the unchanged system.
+//! Every refusal of a step by its number, and which comes first.
 
 mod common;
 
 use common::*;
 use reference::*;
 
-fn refused(system: &System, step: Step, refusal: Refusal) {
+/// The step is refused with this number, and the system stays.
+fn refused(system: &System, step: Step, wanted: u8) {
     let mut after = system.clone();
-    assert_eq!(step.run(&mut after), Err(refusal));
-    assert_eq!(number(Err(refusal)), refusal as u8);
-    assert_eq!(&after, system);
+    assert_eq!(number(step.run(&mut after)), wanted, "{step:?}");
+    assert_eq!(&after, system, "{step:?}");
+}
+
+fn done(system: &mut System, step: Step) {
+    assert_eq!(number(step.run(system)), 0, "{step:?}");
 }
 
 fn report_by(p: u8, view: u8) -> Step {
@@ -29,18 +33,35 @@ fn crash_of(p: u8) -> Step {
 }
 
 #[test]
+fn numbers_of_the_table() {
+    let table = [
+        Refusal::Unsound,
+        Refusal::Stranger,
+        Refusal::Crashed,
+        Refusal::OddView,
+        Refusal::NothingThere,
+        Refusal::HistoryFull,
+        Refusal::ChannelFull,
+        Refusal::BadLine,
+        Refusal::LongSheet,
+    ];
+    assert_eq!(table.map(|refusal| number(Err(refusal))), [1, 2, 3, 4, 5, 6, 7, 8, 9]);
+    assert_eq!(number(Ok(())), 0);
+}
+
+#[test]
 fn unsound_first() {
     let mut system = system(2);
-    system.process_mut(id(2)).next = GroupIndex(1);
+    system.process_mut(id(2)).next = index(1);
     for step in [report_by(9, 0), receive_by(0, 9), respond_by(1, 2), crash_of(1)] {
-        refused(&system, step, Refusal::Unsound);
+        refused(&system, step, 1);
     }
 }
 
 #[test]
 fn stranger_before_stopped() {
     let mut system = system(2);
-    assert_eq!(crash(&mut system, id(1)), Ok(()));
+    done(&mut system, crash_of(1));
     for step in [
         report_by(0, 1),
         report_by(3, 1),
@@ -53,17 +74,17 @@ fn stranger_before_stopped() {
         crash_of(0),
         crash_of(3),
     ] {
-        refused(&system, step, Refusal::Stranger);
+        refused(&system, step, 2);
     }
 }
 
 #[test]
 fn stopped_before_the_rest() {
     let mut system = system(2);
-    assert_eq!(crash(&mut system, id(1)), Ok(()));
+    done(&mut system, crash_of(1));
     for step in [report_by(1, 2), report_by(1, 0), receive_by(2, 1), respond_by(1, 2), crash_of(1)]
     {
-        refused(&system, step, Refusal::Crashed);
+        refused(&system, step, 3);
     }
 }
 
@@ -73,19 +94,19 @@ fn odd_view_before_full() {
     proposed(&mut system, 1, 3, 32);
     put(&mut system, 1, 1, &[acc(2); 8]);
     for view in [0, 2, 4, 5, 255] {
-        refused(&system, report_by(1, view), Refusal::OddView);
+        refused(&system, report_by(1, view), 4);
     }
 }
 
 #[test]
 fn nothing_there() {
     let mut system = system(2);
-    refused(&system, receive_by(1, 2), Refusal::NothingThere);
-    refused(&system, respond_by(1, 1), Refusal::NothingThere);
+    refused(&system, receive_by(1, 2), 5);
+    refused(&system, respond_by(1, 1), 5);
     // A record that does not match waits, and is asked before room.
-    system.process_mut(id(1)).recorded[0] = Some(at(1, 2));
+    system.process_mut(id(1)).set_recorded(id(1), Some(at(1, 2)));
     put(&mut system, 1, 1, &[acc(2); 8]);
-    refused(&system, respond_by(1, 1), Refusal::NothingThere);
+    refused(&system, respond_by(1, 1), 5);
 }
 
 #[test]
@@ -93,16 +114,16 @@ fn history_full() {
     let mut system = system(2);
     proposed(&mut system, 1, 3, 32);
     put(&mut system, 1, 1, &[acc(2); 8]);
-    refused(&system, report_by(1, 1), Refusal::HistoryFull);
+    refused(&system, report_by(1, 1), 6);
     // A Retry that would be acted on; the own channel is full too.
     put(&mut system, 2, 1, &[retry(32, 33)]);
-    refused(&system, receive_by(2, 1), Refusal::HistoryFull);
+    refused(&system, receive_by(2, 1), 6);
     // One that is not acted on is done.
     proposed(&mut system, 1, 3, 31);
-    assert_eq!(receive(&mut system, id(2), id(1)), Ok(()));
-    // Neither is a report that proposes nothing.
+    done(&mut system, receive_by(2, 1));
+    // So is a report that proposes nothing.
     proposed(&mut system, 2, 2, 32);
-    assert_eq!(report(&mut system, id(2), View(3)), Ok(()));
+    done(&mut system, report_by(2, 3));
 }
 
 #[test]
@@ -110,18 +131,18 @@ fn channel_full() {
     let mut system = system(2);
     proposed(&mut system, 1, 3, 5);
     put(&mut system, 1, 2, &[acc(2); 8]);
-    refused(&system, report_by(1, 3), Refusal::ChannelFull);
+    refused(&system, report_by(1, 3), 7);
     // Retry and Acc, both from itself and from the other.
     put(&mut system, 1, 1, &[retry(5, 6)]);
-    refused(&system, receive_by(1, 1), Refusal::ChannelFull);
+    refused(&system, receive_by(1, 1), 7);
     put(&mut system, 2, 1, &[acc(5)]);
     system.process_mut(id(1)).acks = View(1);
-    refused(&system, receive_by(2, 1), Refusal::ChannelFull);
+    refused(&system, receive_by(2, 1), 7);
     // A response.
-    system.process_mut(id(1)).recorded[1] = Some(at(3, 2));
-    refused(&system, respond_by(1, 2), Refusal::ChannelFull);
+    system.process_mut(id(1)).set_recorded(id(2), Some(at(3, 2)));
+    refused(&system, respond_by(1, 2), 7);
     // A view without the other needs no room there.
-    assert_eq!(report(&mut system, id(1), View(1)), Ok(()));
+    done(&mut system, report_by(1, 1));
 }
 
 #[test]
@@ -130,9 +151,9 @@ fn own_channel_full_and_message_from_another() {
     proposed(&mut system, 1, 3, 5);
     put(&mut system, 1, 1, &[acc(2); 8]);
     put(&mut system, 2, 1, &[retry(5, 6)]);
-    refused(&system, receive_by(2, 1), Refusal::ChannelFull);
-    assert_eq!(receive(&mut system, id(1), id(1)), Ok(()));
-    assert_eq!(receive(&mut system, id(2), id(1)), Ok(()));
+    refused(&system, receive_by(2, 1), 7);
+    done(&mut system, receive_by(1, 1));
+    done(&mut system, receive_by(2, 1));
 }
 
 #[test]

@@ -16,9 +16,9 @@ const UNSOUND: &[Change] = &[
     |s| s.n = 0,
     |s| s.n = 9,
     |s| s.n = 2,
-    |s| first(s).next = GroupIndex(1),
-    |s| first(s).next = GroupIndex(34),
-    |s| first(s).propout = GroupIndex(0),
+    |s| first(s).next = index(1),
+    |s| first(s).next = index(34),
+    |s| first(s).propout = index(0),
     |s| proposed(s, 1, 1, 33),
     |s| first(s).view = View(6),
     |s| first(s).view = View(9),
@@ -27,14 +27,14 @@ const UNSOUND: &[Change] = &[
     |s| proposed(s, 1, 6, 2),
     |s| proposed(s, 1, 9, 2),
     |s| first(s).acks = View(8),
-    |s| first(s).history[0] = View(0),
-    |s| first(s).history[0] = View(8),
-    |s| first(s).history[31] = View(128),
-    |s| first(s).recorded[1] = Some(at(3, 1)),
-    |s| first(s).recorded[1] = Some(at(3, 33)),
-    |s| first(s).recorded[1] = Some(at(2, 2)),
-    |s| first(s).recorded[1] = Some(at(1, 2)),
-    |s| first(s).recorded[1] = Some(at(11, 2)),
+    |s| first(s).set_entry(index(1), View(0)),
+    |s| first(s).set_entry(index(1), View(8)),
+    |s| first(s).set_entry(index(32), View(128)),
+    |s| first(s).set_recorded(id(2), Some(at(3, 1))),
+    |s| first(s).set_recorded(id(2), Some(at(3, 33))),
+    |s| first(s).set_recorded(id(2), Some(at(2, 2))),
+    |s| first(s).set_recorded(id(2), Some(at(1, 2))),
+    |s| first(s).set_recorded(id(2), Some(at(11, 2))),
     |s| put(s, 1, 2, &[acc(1)]),
     |s| put(s, 1, 2, &[acc(33)]),
     |s| put(s, 1, 2, &[acc(2), retry(1, 2)]),
@@ -47,8 +47,8 @@ const UNSOUND: &[Change] = &[
     |s| put(s, 1, 2, &[commit(3, 33)]),
     |s| put(s, 1, 2, &[commit(2, 2)]),
     |s| put(s, 1, 2, &[commit(19, 2)]),
-    |s| s.channel_mut(id(1), id(2)).len = 9,
-    |s| s.channel_mut(id(1), id(2)).len = 255,
+    |s| put(s, 1, 2, &[acc(2); 9]),
+    |s| s.unreadable = true,
     |s| {
         first(s).crashed = true;
         put(s, 2, 1, &[acc(2)]);
@@ -57,25 +57,18 @@ const UNSOUND: &[Change] = &[
 
 const SOUND: &[Change] = &[
     |_| (),
-    |s| first(s).next = GroupIndex(33),
+    |s| first(s).next = index(33),
     |s| proposed(s, 1, 7, 32),
     // It need not be the least of what it proposed last.
     |s| proposed(s, 2, 3, 2),
-    |s| first(s).history[1] = View(6),
+    |s| first(s).set_entry(index(2), View(6)),
     |s| first(s).acks = View(7),
-    |s| first(s).recorded[1] = Some(at(3, 32)),
+    |s| first(s).set_recorded(id(2), Some(at(3, 32))),
     |s| put(s, 1, 2, &[retry(32, 33), acc(32), commit(7, 32), propose(3, 2)]),
     |s| put(s, 1, 2, &[acc(2); 8]),
-    // Unused slots and whatever lies past n.
-    |s| s.channel_mut(id(1), id(2)).slots[0] = acc(0),
-    |s| s.process_mut(id(4)).next = GroupIndex(0),
-    |s| first(s).recorded[3] = Some(at(255, 0)),
-    |s| s.channel_mut(id(4), id(1)).len = 9,
-    |s| s.channel_mut(id(1), id(4)).len = 9,
     |s| {
         first(s).crashed = true;
         put(s, 1, 2, &[acc(2)]);
-        put(s, 4, 1, &[acc(2)]);
     },
 ];
 

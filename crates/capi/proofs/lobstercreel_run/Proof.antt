@@ -1,6 +1,6 @@
 -- `capi::lobstercreel_run`: what the run of a sheet prints.
-use Rattle.capi.proofs.Calls.{printed}
 use borrow.Author.Needs.{needs}
+use Rattle.capi.proofs.Printed.{printed}
 use Rattle.capi.proofs.lobstercreel_run.Statement.{statement}
 use Rattle.capi.proofs.lobstercreel_run.Tie as tie
 

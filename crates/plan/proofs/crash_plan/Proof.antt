@@ -1,12 +1,12 @@
--- `plan::crash_plan` is its definition.
-use Rattle.plan.specs.Fields.{asCrashed}
 use borrow.Author.Needs.{needs}
 use Rattle.plan.proofs.crash_plan.Statement.{statement}
 use Rattle.plan.proofs.crash_plan.Tie as tie
 
+assigning-requires : tie.Need-assigning-requires
+assigning-requires c κs = search needs
+
 returns : tie.Need-returns
-unfolding asCrashed
-returns c = c .quietly .ensures
+returns c = simp (c .assigning .ensures)
 
 pub crash-plan-spec : {M : Type 1} → statement M
-crash-plan-spec = tie.close (tie.spec (λ c κs. search needs) returns)
+crash-plan-spec = tie.close (tie.spec assigning-requires returns)

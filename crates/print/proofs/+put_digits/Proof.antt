@@ -1,14 +1,14 @@
 -- `print::put_digits`: each call types the digits before the last, and then the last.
+use Prim.Native.Nat.{ℕ, _<_}
 use mathlib.Core.Path.{_∙_}
 use native.Mathlib.Omega.{arith}
-use Rattle.print.proofs.Laws.{nothing-typed, in-turn, no-digits, one-digit, more-digits}
-use Prim.Native.Nat.{ℕ, _<_}
 use borrow.Fn.Kinds.{In}
 use borrow.Fn.PlainCycle.{Measures, is, falls, and}
+use Rattle.print.proofs.Laws.{nothing-typed, no-digits, first-digit, last-digit}
 use Rattle.print.proofs.put_digits.Reads as put-digits
 use Rattle.print.proofs.put_digits.Kinds as put-digits-kinds
 use Rattle.print.proofs.+put_digits.Lts-put_digits as put-digits-lts
-use Rattle.print.proofs.put_byte.Reads as put-byte-reads
+use Rattle.print.proofs.put_digit.Reads as put-digit-reads
 use Rattle.print.proofs.+put_digits.{statement}
 use Rattle.print.proofs.+put_digits.Tie.{close}
 
@@ -16,137 +16,27 @@ abbrev μ-put-digits : Measures 1 put-digits-kinds.ps ℕ
 μ-put-digits κs a = a .1 .1 .0
 
 abbrev put-digits-at : ℕ → In 1 put-digits-kinds.ps
-put-digits-at t =
-    and 1 put-digits-kinds.ps (is 1 put-digits-kinds.ps μ-put-digits t) put-digits.Pre
+put-digits-at t = and 1 put-digits-kinds.ps (is 1 put-digits-kinds.ps μ-put-digits t) put-digits.Pre
 
 abbrev put-digits-below : ℕ → In 1 put-digits-kinds.ps
-put-digits-below t =
-    and 1 put-digits-kinds.ps (falls 1 put-digits-kinds.ps _<_ μ-put-digits t) put-digits.Pre
-
-put-digits-cast-put-byte : (t : ℕ) → put-digits-lts.Need-cast-put-byte (
-  put-byte-reads.Asked,
-  put-byte-reads.Learnt,
-  put-digits-below t,
-  put-digits.Post,
-) (put-digits-at t) put-digits.Post
-put-digits-cast-put-byte t c = omega arith
-
-put-digits-add-put-byte : (t : ℕ) → put-digits-lts.Need-add-put-byte (
-  put-byte-reads.Asked,
-  put-byte-reads.Learnt,
-  put-digits-below t,
-  put-digits.Post,
-) (put-digits-at t) put-digits.Post
-put-digits-add-put-byte t c = omega arith
-
-put-digits-put-byte-requires : (t : ℕ) → put-digits-lts.Need-put-byte-requires (
-  put-byte-reads.Asked,
-  put-byte-reads.Learnt,
-  put-digits-below t,
-  put-digits.Post,
-) (put-digits-at t) put-digits.Post
-put-digits-put-byte-requires t c κs = tt
-
-put-digits-sub-put-digits : (t : ℕ) → put-digits-lts.Need-sub-put-digits (
-  put-byte-reads.Asked,
-  put-byte-reads.Learnt,
-  put-digits-below t,
-  put-digits.Post,
-) (put-digits-at t) put-digits.Post
-put-digits-sub-put-digits t c = omega arith
-
-put-digits-put-digits-requires : (t : ℕ) → put-digits-lts.Need-put-digits-requires (
-  put-byte-reads.Asked,
-  put-byte-reads.Learnt,
-  put-digits-below t,
-  put-digits.Post,
-) (put-digits-at t) put-digits.Post
-put-digits-put-digits-requires t c κs = (omega (arith, c .before .before .before .before .pre .0), tt)
-
-put-digits-cast-put-byte-2 : (t : ℕ) → put-digits-lts.Need-cast-put-byte-2 (
-  put-byte-reads.Asked,
-  put-byte-reads.Learnt,
-  put-digits-below t,
-  put-digits.Post,
-) (put-digits-at t) put-digits.Post
-put-digits-cast-put-byte-2 t c = omega arith
-
-put-digits-add-put-byte-2 : (t : ℕ) → put-digits-lts.Need-add-put-byte-2 (
-  put-byte-reads.Asked,
-  put-byte-reads.Learnt,
-  put-digits-below t,
-  put-digits.Post,
-) (put-digits-at t) put-digits.Post
-put-digits-add-put-byte-2 t c = omega arith
-
-put-digits-put-byte-requires-2 : (t : ℕ) → put-digits-lts.Need-put-byte-requires-2 (
-  put-byte-reads.Asked,
-  put-byte-reads.Learnt,
-  put-digits-below t,
-  put-digits.Post,
-) (put-digits-at t) put-digits.Post
-put-digits-put-byte-requires-2 t c κs = tt
-
-put-digits-returns : (t : ℕ) → put-digits-lts.Need-returns (
-  put-byte-reads.Asked,
-  put-byte-reads.Learnt,
-  put-digits-below t,
-  put-digits.Post,
-) (put-digits-at t) put-digits.Post
-put-digits-returns t c = rw (no-digits _ _ (c .if1 .taken)) (nothing-typed _)
-
-put-digits-same-length : (t : ℕ) → put-digits-lts.Need-same-length (
-  put-byte-reads.Asked,
-  put-byte-reads.Learnt,
-  put-digits-below t,
-  put-digits.Post,
-) (put-digits-at t) put-digits.Post
-put-digits-same-length t c = c .before .before .put-byte .kept .0
-
-put-digits-returns-2 : (t : ℕ) → put-digits-lts.Need-returns-2 (
-  put-byte-reads.Asked,
-  put-byte-reads.Learnt,
-  put-digits-below t,
-  put-digits.Post,
-) (put-digits-at t) put-digits.Post
-put-digits-returns-2 t c = rw (one-digit _ _ (c .before .before .before .before .before .if1 .left) (c .before .before .before .before .if2 .taken)) (c .before .before .put-byte .ensures)
-
-put-digits-same-length-2 : (t : ℕ) → put-digits-lts.Need-same-length-2 (
-  put-byte-reads.Asked,
-  put-byte-reads.Learnt,
-  put-digits-below t,
-  put-digits.Post,
-) (put-digits-at t) put-digits.Post
-put-digits-same-length-2 t c = c .before .before .put-byte2 .kept .0 ∙ c .before .before .before .before .before .before .put-digits .kept .0
-
-put-digits-returns-3 : (t : ℕ) → put-digits-lts.Need-returns-3 (
-  put-byte-reads.Asked,
-  put-byte-reads.Learnt,
-  put-digits-below t,
-  put-digits.Post,
-) (put-digits-at t) put-digits.Post
-put-digits-returns-3 t c = rw (more-digits _ _ (c .before .before .before .before .before .before .before .before .before .if1 .left) (c .before .before .before .before .before .before .before .before .if2 .left))
-    (in-turn _ _ _ _ _ (c .before .before .before .before .before .before .put-digits .ensures) (c .before .before .put-byte2 .ensures))
+put-digits-below t = and 1 put-digits-kinds.ps (falls 1 put-digits-kinds.ps _<_ μ-put-digits t) put-digits.Pre
 
 pub +put-digits-spec : {M : Type 1} → statement M
 +put-digits-spec = close μ-put-digits λ t. put-digits-lts.spec (
-  put-byte-reads.Asked,
-  put-byte-reads.Learnt,
+  put-digit-reads.Asked,
+  put-digit-reads.Learnt,
   put-digits-below t,
   put-digits.Post,
 )
     (put-digits-at t)
     put-digits.Post
-    (put-digits-cast-put-byte t)
-    (put-digits-add-put-byte t)
-    (put-digits-put-byte-requires t)
-    (put-digits-sub-put-digits t)
-    (put-digits-put-digits-requires t)
-    (put-digits-cast-put-byte-2 t)
-    (put-digits-add-put-byte-2 t)
-    (put-digits-put-byte-requires-2 t)
-    (put-digits-returns t)
-    (put-digits-same-length t)
-    (put-digits-returns-2 t)
-    (put-digits-same-length-2 t)
-    (put-digits-returns-3 t)
+    (λ c κs. tt)
+    (λ c. omega arith)
+    (λ c κs. (omega (arith, c .before .before .before .before .pre .0), tt))
+    (λ c κs. tt)
+    (λ c. rw (no-digits _ _ (c .if1 .taken)) (nothing-typed _))
+    (λ c. c .before .before .put-digit .kept .0)
+    (λ c. first-digit _ _ _ _ (omega arith) (c .before .before .before .before .if2 .taken) (c .before .before .put-digit .ensures))
+    (λ c. c .before .before .put-digit2 .kept .0 ∙ c .before .before .before .before .before .before .put-digits .kept .0)
+    (λ c.
+    last-digit _ _ _ _ _ (omega arith) (c .before .before .before .before .before .before .before .before .if2 .left) (c .before .before .before .before .before .before .put-digits .ensures) (c .before .before .put-digit2 .ensures))

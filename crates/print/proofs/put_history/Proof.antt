@@ -3,18 +3,20 @@ use borrow.Author.Needs.{needs}
 use Prim.Native.Nat.{_≤_, _-_}
 use mathlib.Core.Path.{_≡_}
 use native.Mathlib.Omega.{arith}
+use Rattle.system.specs.System.{processAt}
+use Rattle.image.specs.Image.{systemIn}
 use Rattle.print.specs.Text.{textUpTo}
 use Rattle.print.specs.Page.{page, typed}
-use Rattle.print.specs.Print.{entryOf, historyText}
+use Rattle.print.specs.Print.{entryTextAt, historyText}
 use Rattle.print.proofs.Laws.{nothing-typed, text-again, same-room}
 use Rattle.print.proofs.put_history.Statement.{statement}
 use Rattle.print.proofs.put_history.Tie as tie
 
 abbrev Inv-loop : tie.InvT-loop
-Inv-loop out₀ at h next₀ i₀ out next i = (i ≤ 32) × (page out next ≡ typed (page out₀ at) (textUpTo i (entryOf h)))
+Inv-loop out₀ at image p next₀ i₀ out next i = (i ≤ 32) × (page out next ≡ typed (page out₀ at) (textUpTo i (entryTextAt (processAt (systemIn image) (p .0) .history))))
 
 abbrev μ-loop : tie.MeasureT-loop
-μ-loop out₀ at h next₀ i₀ out next i = 32 - i
+μ-loop out₀ at image p next₀ i₀ out next i = 32 - i
 
 loop-holds : tie.Need-loop-holds Inv-loop μ-loop
 unfolding textUpTo
@@ -24,8 +26,11 @@ loop-less : tie.Need-loop-less Inv-loop μ-loop
 loop-less c = omega arith
 
 loop-again : tie.Need-loop-again Inv-loop μ-loop
-unfolding entryOf
-loop-again c = (omega arith, text-again _ _ _ _ (entryOf (c .before .before .before .before .before .before .before .before .args .h)) (c .before .before .before .before .before .before .loop .inv .1) (rw (← c .before .before .before .before .entry-at .ensures) (c .before .before .put-entry .ensures)))
+unfolding entryTextAt
+loop-again c = (
+  omega arith,
+  text-again _ _ _ _ (entryTextAt _) (c .before .before .before .before .before .before .loop .inv .1) (rw (← c .before .before .before .entry-at .ensures) (c .before .before .put-entry .ensures)),
+)
 
 same-length : tie.Need-same-length Inv-loop μ-loop
 same-length c = same-room _ _ _ _ _ (c .before .loop .inv .1)

@@ -3,46 +3,38 @@ use borrow.Author.Needs.{needs}
 use Prim.Native.Nat.{_≤_, _-_}
 use mathlib.Core.Path.{_≡_}
 use native.Mathlib.Omega.{arith}
-use lib.ListN.{length}
-use Rattle.view.proofs.Laws.{long}
+use Rattle.image.specs.Image.{systemIn}
 use Rattle.print.specs.Text.{textUpTo}
 use Rattle.print.specs.Page.{page, typed}
 use Rattle.print.specs.Print.{unitOf, unitLines}
-use Rattle.print.proofs.Laws.{nothing-typed, unit-again, same-room}
+use Rattle.print.proofs.Laws.{nothing-typed, text-again, same-room}
 use Rattle.print.proofs.put_units.Statement.{statement}
 use Rattle.print.proofs.put_units.Tie as tie
 
 abbrev Inv-loop : tie.InvT-loop
-Inv-loop out₀ at s n next₀ i₀ out next i = (i ≤ n)
-    × (n ≤ 8)
-    × (length (s .processes) ≡ 8)
-    × (page out next ≡ typed (page out₀ at) (textUpTo i (unitOf s)))
+Inv-loop out₀ at image n next₀ i₀ out next i =
+    (i ≤ n) × (n ≤ 8) × (page out next ≡ typed (page out₀ at) (textUpTo i (unitOf (systemIn image))))
 
 abbrev μ-loop : tie.MeasureT-loop
-μ-loop out₀ at s n next₀ i₀ out next i = n - i
+μ-loop out₀ at image n next₀ i₀ out next i = n - i
 
 loop-holds : tie.Need-loop-holds Inv-loop μ-loop
 unfolding textUpTo
-loop-holds c = (omega arith, omega arith, (search long), nothing-typed _)
-
-loop-less : tie.Need-loop-less Inv-loop μ-loop
-loop-less c = omega arith
+loop-holds c = (omega arith, omega arith, nothing-typed _)
 
 loop-again : tie.Need-loop-again Inv-loop μ-loop
-loop-again c = let l = c .before .before .before .before .before .before .loop .inv in (
-  omega arith,
-  l .1,
-  l .2,
-  unit-again _ _ _ _ (c .before .before .before .before .before .before .before .before .before .args .t3) _ (omega arith) (l .3) (c .before .before .put-unit .ensures),
-)
+unfolding unitOf
+loop-again c =
+    let l = c .before .before .before .before .before .loop .inv in
+    (omega arith, l .1, text-again _ _ _ _ (unitOf _) (l .2) (c .before .before .put-unit .ensures))
 
 same-length : tie.Need-same-length Inv-loop μ-loop
-same-length c = same-room _ _ _ _ _ (c .before .loop .inv .3)
+same-length c = same-room _ _ _ _ _ (c .before .loop .inv .2)
 
 returns : tie.Need-returns Inv-loop μ-loop
 unfolding unitLines
 returns c = let end : c .before .loop .i ≡ c .before .before .lesser .result = omega arith in
-    rw (end, c .before .before .lesser .ensures) at (c .before .loop .inv .3)
+    rw (end, c .before .before .lesser .ensures, c .before .before .before .size .ensures) at (c .before .loop .inv .2)
 
 pub put-units-spec : {M : Type 1} → statement M
 put-units-spec =
@@ -51,13 +43,11 @@ put-units-spec =
     Inv-loop
     μ-loop
     (λ c κs. search needs)
+    (λ c κs. search needs)
     loop-holds
     (λ c. search needs)
-    (λ c. search needs)
-    (λ c. search needs)
-    (λ c. search needs)
     (λ c κs. search needs)
-    loop-less
+    (λ c. search needs)
     loop-again
     same-length
     returns)

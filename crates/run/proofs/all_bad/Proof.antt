@@ -1,10 +1,9 @@
 -- `run::all_bad`: what is on the page, then the rest of the lines, is the whole.
-use mathlib.Core.Path.{refl, sym, _∙_}
+use mathlib.Core.Path.{_≡_, refl, sym, _∙_}
 use native.Mathlib.Omega.{arith}
 use Rattle.sheet.proofs.Laws.{Cut, line-found, end-found}
 use Rattle.run.proofs.Laws.{bad-again, bad-end}
 use Prim.Native.Nat.{_+_, _-_, _≤_}
-use mathlib.Core.Path.{_≡_}
 use lib.ListN.{length, drop}
 use Rattle.print.specs.Page.{page, typed}
 use Rattle.sheet.specs.Lines.{linesOf}
@@ -25,12 +24,6 @@ abbrev μ-loop : tie.MeasureT-loop
 
 loop-holds : tie.Need-loop-holds Inv-loop μ-loop
 loop-holds c = (c .before .before .pre, omega arith, refl, refl)
-
-enum-told : tie.Need-enum-told Inv-loop μ-loop
-enum-told c = search needs
-
-same-length : tie.Need-same-length Inv-loop μ-loop
-same-length c = c .before .before .before .loop .inv .3
 
 returns : tie.Need-returns Inv-loop μ-loop
 returns c =
@@ -67,8 +60,8 @@ all-bad-spec =
     μ-loop
     loop-holds
     (λ c κs. search needs)
-    enum-told
-    same-length
+    (λ c. search needs)
+    (λ c. c .before .before .before .loop .inv .3)
     returns
     (λ c. search needs)
     (λ c κs. search needs)

@@ -9,10 +9,10 @@ use borrow.Author.Needs.{needs}
 use Rattle.sound.proofs.sound_message.Statement.{statement}
 use Rattle.sound.proofs.sound_message.Tie as tie
 
-add-between : tie.Need-add-between
-add-between c =
+add-in-range : tie.Need-add-in-range
+add-in-range c =
     let k = c .before .before .before .before .m2 .given .0 .0 .0 in
-    omega (arith, leb-true k 32 (and-right (leb 2 k) (leb k 32) (sym (c .before .before .between .ensures) ∙ c .before .if1 .taken)))
+    omega (arith, leb-true k 32 (and-right (leb 2 k) (leb k 32) (sym (c .before .before .in-range .ensures) ∙ c .before .if1 .taken)))
 
 returns : tie.Need-returns
 unfolding soundMessage
@@ -20,15 +20,15 @@ returns c = simp (c .before .before .m .given .1, c .sound-proposal .ensures)
 
 returns-2 : tie.Need-returns-2
 unfolding soundMessage
-returns-2 c = simp (c .before .before .before .before .before .m2 .given .1, ← c .before .before .before .between .ensures, c .before .before .if1 .taken, c .between2 .ensures)
+returns-2 c = simp (c .before .before .before .before .before .m2 .given .1, ← c .before .before .before .in-range .ensures, c .before .before .if1 .taken, c .in-range2 .ensures)
 
 returns-3 : tie.Need-returns-3
 unfolding soundMessage
-returns-3 c = simp (c .before .before .before .m2 .given .1, ← c .before .between .ensures, c .if1 .left)
+returns-3 c = simp (c .before .before .before .m2 .given .1, ← c .before .in-range .ensures, c .if1 .left)
 
 returns-4 : tie.Need-returns-4
 unfolding soundMessage
-returns-4 c = simp (c .before .before .m3 .given .1, c .between3 .ensures)
+returns-4 c = simp (c .before .before .m3 .given .1, c .in-range3 .ensures)
 
 returns-5 : tie.Need-returns-5
 unfolding soundMessage
@@ -42,7 +42,7 @@ sound-message-spec =
     (λ c κs. search needs)
     (λ c. search needs)
     (λ c κs. search needs)
-    add-between
+    add-in-range
     (λ c κs. search needs)
     (λ c. search needs)
     (λ c κs. search needs)

@@ -14,7 +14,7 @@ returns c =
       c .before .before .before .has .ensures,
       c .before .before .before .before .and .ensures,
       c .before .before .before .before .before .within .ensures,
-      c .before .before .before .before .before .before .between .ensures,
+      c .before .before .before .before .before .before .in-range .ensures,
     )
 
 pub sound-proposal-spec : {M : Type 1} → statement M

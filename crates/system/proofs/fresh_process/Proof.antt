@@ -1,13 +1,13 @@
 -- `system::fresh_process` is its definition.
 use Rattle.view.specs.Logic.{put}
 use Rattle.system.specs.Process.{withEntry}
-use Rattle.system.specs.Fresh.{freshProcess}
+use Rattle.system.specs.Fresh.{freshVariables, freshProcess}
 use borrow.Author.Needs.{needs}
 use Rattle.system.proofs.fresh_process.Statement.{statement}
 use Rattle.system.proofs.fresh_process.Tie as tie
 
 returns : tie.Need-returns
-unfolding freshProcess withEntry put
+unfolding freshProcess freshVariables withEntry put
 returns c = simp (c .everyone .ensures)
 
 pub fresh-process-spec : {M : Type 1} → statement M

@@ -1,12 +1,13 @@
-//! The proved library and the reference side by side, in one run: whole sheets, and single steps
-//! through the image. Nothing is judged.
+//! The proved library and its rival side by side, in one run: whole sheets, single steps through the
+//! image, and lists of steps. Nothing is judged.
 
 use differential::dice::Dice;
 use differential::lines::line;
 use differential::our_step;
+use differential::rival::{self, rival_step};
 use lobstercreel as ours;
 use reference::image::{decode, encode, Image};
-use reference::{number, ProcessId, Step, System};
+use reference::{ProcessId, Step, System};
 use std::hint::black_box;
 use std::time::{Duration, Instant};
 
@@ -21,12 +22,13 @@ const IMAGES: usize = 128;
 
 const HELP: &str = "\
 Both sides are built for release and called in this one process. Their rounds take turns, and the
-best round counts. ns: for one step, on a sheet one line. ratio: our time by the reference's.
+best round counts. ns: for one step, on a sheet one line. ratio: our time by the rival's.
 Cleared before each round, outside the clock: the output buffer that is lent to each side,
 overwritten with zeros; the images, copied anew, one for each step. Not cleared: the processor's
 caches, which are warm on both sides.
 Inside the clock, on both sides: reading the sheet and writing its output; or reading the image,
-the soundness test, the step, and writing the image if the step is done.
+the soundness test, the step, and writing the image if the step is done. Of a list of steps: the
+image read, tested and written once, and each step's number.
 refused: lines with another number than 0. quiet: reports that only change a local view.
 A history ends at position 32: after some hundred lines a sheet has little else left.
 ";
@@ -47,39 +49,44 @@ fn main() {
         steps(n, true);
     }
     steps(8, false);
+    println!();
+    heading("a list of 1,000 steps on one image");
+    for n in [1, 2, 4, 8] {
+        list(n);
+    }
 }
 
 fn heading(what: &str) {
-    println!("{what:<41} {:>17} {:>17}", "ours", "reference");
+    println!("{what:<41} {:>17} {:>17}", "ours", "rival");
     println!("{:41} {:>6} {:>10} {:>6} {:>10}  ratio", "", "ns", "steps/s", "ns", "steps/s");
 }
 
-fn row(what: String, count: usize, (ours, reference): (Duration, Duration)) {
+fn row(what: String, count: usize, (ours, rival): (Duration, Duration)) {
     let each = |time: Duration| time.as_secs_f64() / count as f64;
     let nanoseconds = |time| 1e9 * each(time);
     let rate = |time| 1.0 / each(time);
-    let ratio = each(ours) / each(reference);
+    let ratio = each(ours) / each(rival);
     println!(
         "{what:<41} {:>6.0} {:>10.0} {:>6.0} {:>10.0} {ratio:>6.2}",
         nanoseconds(ours),
         rate(ours),
-        nanoseconds(reference),
-        rate(reference),
+        nanoseconds(rival),
+        rate(rival),
     );
 }
 
-/// The best times of ours and of the reference's work, each after its own clearing.
+/// The best times of ours and of the rival's work, each after its own clearing.
 fn best<A, B>(
     mut clear_ours: impl FnMut() -> A,
     mut ours: impl FnMut(&mut A),
-    mut clear_reference: impl FnMut() -> B,
-    mut reference: impl FnMut(&mut B),
+    mut clear_rival: impl FnMut() -> B,
+    mut rival: impl FnMut(&mut B),
 ) -> (Duration, Duration) {
     let mut best = (Duration::MAX, Duration::MAX);
     let start = Instant::now();
     while start.elapsed() < PATIENCE {
         best.0 = best.0.min(timed(&mut clear_ours, &mut ours));
-        best.1 = best.1.min(timed(&mut clear_reference, &mut reference));
+        best.1 = best.1.min(timed(&mut clear_rival, &mut rival));
     }
     best
 }
@@ -112,13 +119,13 @@ fn busy_run(n: u8, steps: usize) -> Vec<(System, Step)> {
             false => dice.pick(&due),
         };
         run.push((system.clone(), step));
-        let _ = step.run_on_sound(&mut system);
+        let _ = step.run(&mut system);
     }
     run
 }
 
 fn is_done(system: &System, step: Step) -> bool {
-    step.run_on_sound(&mut system.clone()).is_ok()
+    step.next(system).is_ok()
 }
 
 /// The takes and answers that would be done.
@@ -126,10 +133,10 @@ fn due(system: &System) -> Vec<Step> {
     let mut due = Vec::new();
     for p in system.everyone().members() {
         for q in system.everyone().members() {
-            if system.channel(q, p).len > 0 {
+            if !system.channel(q, p).is_empty() {
                 due.push(Step::Receive { from: q, at: p });
             }
-            if system.process(p).recorded[usize::from(q.0) - 1].is_some() {
+            if system.process(p).recorded(q).is_some() {
                 due.push(Step::Respond { p, to: q });
             }
         }
@@ -159,7 +166,7 @@ fn sheets(n: u8, lines: usize) {
     let sheet = text.as_bytes();
     assert!(sheet.len() <= reference::SHEET_LIMIT, "{lines} lines are too many");
     let output = reference::run_sheet(sheet);
-    assert!(ours::run_sheet(sheet) == output);
+    assert!(ours::run_sheet(sheet) == output && rival::run_sheet(sheet) == output);
     let times = 1 + LINES / lines;
     let time = best(
         || zeros(output.len() + 1),
@@ -172,7 +179,7 @@ fn sheets(n: u8, lines: usize) {
         |out| {
             for _ in 0..times {
                 out.clear();
-                reference::run_sheet_onto(out, sheet);
+                rival::run_sheet_onto(out, sheet);
                 black_box(&out);
             }
         },
@@ -213,12 +220,38 @@ fn steps(n: u8, done: bool) {
         || chosen.clone(),
         |images| {
             for (image, step) in images {
-                let mut system = decode(image).expect("an image");
-                if number(black_box(step.run(&mut system))) == 0 {
-                    *image = encode(&system);
-                }
+                black_box(rival::step_on(image, rival_step(*step)));
             }
         },
     );
     row(format!("n {n}, {}", if done { "done" } else { "refused with 5" }), chosen.len(), time);
+}
+
+/// One call with a list of steps, from a fresh image.
+fn list(n: u8) {
+    let steps: Vec<Step> = busy_run(n, 1_000).into_iter().map(|(_, step)| step).collect();
+    let bytes: Vec<u8> = steps.iter().flat_map(|&step| our_step(step).bytes()).collect();
+    let rivals: Vec<rival::Step> = steps.iter().map(|&step| rival_step(step)).collect();
+    let start = encode(&reference::fresh(n).1);
+    let (mut ours_after, mut rivals_after) = (start, start);
+    let (mut ours_numbers, mut rivals_numbers) = ([0; 1_000], [0; 1_000]);
+    ours::steps_into(&mut ours_after, &bytes, &mut ours_numbers);
+    rival::steps_on(&mut rivals_after, &rivals, &mut rivals_numbers);
+    assert!(ours_numbers == rivals_numbers && decode(&ours_after) == decode(&rivals_after));
+    let images = || vec![(start, [0; 1_000]); 20];
+    let time = best(
+        images,
+        |images| {
+            for (image, numbers) in images {
+                black_box(ours::steps_into(image, &bytes, numbers));
+            }
+        },
+        images,
+        |images| {
+            for (image, numbers) in images {
+                rival::steps_on(image, &rivals, black_box(numbers));
+            }
+        },
+    );
+    row(format!("n {n}"), 20 * steps.len(), time);
 }

@@ -1,15 +1,18 @@
-//! The proved library beside the reference, on the same sheets and images. The seeds are fixed; a
-//! difference is told with its seed, and a way to a number that was met too seldom fails the test.
+//! The proved library, and the benchmark's rival, beside the reference, on the same sheets and images.
+//! The seeds are fixed; a difference is told with its seed, and a way to a number that was met too
+//! seldom fails the test.
 
 use differential::dice::Dice;
 use differential::faults::{DAMAGES, FAULTS};
 use differential::lines::{any_bytes, bad, line, FIRST, LATER};
+use differential::litter::litter;
 use differential::our_step;
 use differential::poised::{disturb, poise};
+use differential::rival;
 use differential::ways::{way, By, Ways, AT_LEAST};
 use lobstercreel as ours;
 use reference::image::{decode, encode, Image, SIZE};
-use reference::{number, sound, ProcessId, Step, System, SHEET_LIMIT};
+use reference::{number, sound, GroupIndex, ProcessId, Step, System, SHEET_LIMIT};
 
 /// How many of each part, with the seeds 0 to one less.
 const RUNS: u64 = 4_000;
@@ -44,17 +47,15 @@ fn our_number(answer: ours::Answer) -> u8 {
     answer.map_or_else(|refusal| refusal.0, |()| 0)
 }
 
-/// What the papers say of a step on an image: the number, and the image after it.
-fn expected(image: &Image, step: Step, ways: &mut Ways) -> (u8, Image) {
-    let Some(before) = decode(image) else {
-        return (1, *image);
-    };
+/// What the papers say of a step on an image: the number, and the system after it.
+fn expected(image: &Image, step: Step, ways: &mut Ways) -> (u8, System) {
+    let before = decode(image);
     let mut after = before.clone();
     let number = number(step.run(&mut after));
     if number != 1 {
         ways.count(By::Image, way(&before, step, number));
     }
-    (number, if number == 0 { encode(&after) } else { *image })
+    (number, after)
 }
 
 /// Does the step on the image, which lies between bytes that must stay.
@@ -68,12 +69,29 @@ fn our_answer(image: &mut Image, step: Step) -> u8 {
     number
 }
 
+/// Does the step on the image; the library's and the rival's answers are those of the papers.
 fn compare(image: &mut Image, step: Step, seed: u64, ways: &mut Ways) -> u8 {
-    let wanted = expected(image, step, ways);
-    let number = our_answer(image, step);
-    assert_eq!(number, wanted.0, "seed {seed}: {step:?}");
-    assert!(*image == wanted.1, "seed {seed}: {step:?} left another image");
-    number
+    let (before, wanted) = (*image, expected(image, step, ways));
+    let mut rivals = *image;
+    let answer = (our_answer(image, step), *image);
+    judge("the library", &before, answer, &wanted, step, seed);
+    let answer = (rival::step_on(&mut rivals, rival::rival_step(step)), rivals);
+    judge("the rival", &before, answer, &wanted, step, seed);
+    wanted.0
+}
+
+/// The number is right; and so is the image, up to bytes that mean nothing. Refused, it is the same.
+fn judge(
+    who: &str,
+    before: &Image,
+    (number, after): (u8, Image),
+    wanted: &(u8, System),
+    step: Step,
+    seed: u64,
+) {
+    assert_eq!(number, wanted.0, "seed {seed}: {who}, {step:?}");
+    let right = if number == 0 { decode(&after) == wanted.1 } else { after == *before };
+    assert!(right, "seed {seed}: {who} left another image, {step:?}");
 }
 
 fn fresh_systems(ways: &mut Ways) {
@@ -81,7 +99,7 @@ fn fresh_systems(ways: &mut Ways) {
         let (outcome, system) = reference::fresh(n);
         let mut image = [GUARD; SIZE];
         assert_eq!(our_number(ours::fresh(&mut image, n)), number(outcome), "fresh {n}");
-        assert!(image == encode(&system), "fresh {n}");
+        assert!(decode(&image) == system, "fresh {n}");
         if outcome.is_err() {
             ways.count(By::Image, "2 fresh");
         }
@@ -93,26 +111,96 @@ fn run(seed: u64, ways: &mut Ways) {
     let mut dice = Dice::new(seed);
     let n = 1 + (seed % 8) as u8;
     let mut image = encode(&reference::fresh(n).1);
+    let mut done = Vec::new();
     if dice.one_in(4) {
         for step in dice.opening(n) {
-            compare(&mut image, step, seed, ways);
+            done.push((step, compare(&mut image, step, seed, ways)));
         }
     }
-    let mix = dice.mix(n);
+    let (mix, tidy) = (dice.mix(n), dice.one_in(2));
     for _ in 0..300 {
-        let system = decode(&image).expect("an image");
-        let step = dice.likely_step(&system, mix);
-        compare(&mut image, step, seed, ways);
+        let step = dice.likely_step(&decode(&image), mix);
+        let number = if !tidy && dice.one_in(4) {
+            littered(&mut dice, &mut image, step, seed, ways)
+        } else {
+            compare(&mut image, step, seed, ways)
+        };
+        done.push((step, number));
     }
     entries(&image, seed);
+    as_lists(&mut dice, encode(&reference::fresh(n).1), &done, &decode(&image), seed, ways);
+}
+
+/// The same steps in lists, one after the other, of bytes that now and then are no step: the numbers and
+/// the system are those of the steps one by one.
+fn as_lists(
+    dice: &mut Dice,
+    mut image: Image,
+    done: &[(Step, u8)],
+    end: &System,
+    seed: u64,
+    ways: &mut Ways,
+) {
+    let mut rest = done;
+    while !rest.is_empty() {
+        let (part, later) = rest.split_at(1 + dice.roll(rest.len()));
+        let (mut list, mut wanted) = (Vec::new(), Vec::new());
+        for &(step, number) in part {
+            if dice.one_in(20) {
+                list.extend([4 + dice.roll(252) as u8, dice.byte(), dice.byte()]);
+                wanted.push(8);
+                ways.count(By::Image, "8 unknown kind in a list");
+            }
+            list.extend(our_step(step).bytes());
+            wanted.push(number);
+        }
+        if dice.one_in(4) {
+            list.extend(&[dice.roll(4) as u8, 1][..1 + dice.roll(2)]);
+            wanted.push(8);
+            ways.count(By::Image, "8 list that breaks off");
+        }
+        // Where places lack, only so many are done, and nothing past them is written.
+        let past = dice.roll(3);
+        let mut numbers = vec![GUARD; wanted.len() + past];
+        let count = ours::steps_into(&mut image, &list, &mut numbers);
+        assert_eq!(count, wanted.len(), "seed {seed}: how many of a list");
+        wanted.resize(count + past, GUARD);
+        assert_eq!(numbers, wanted, "seed {seed}: the numbers of a list");
+        ways.count(By::Image, "list of steps");
+        rest = later;
+    }
+    assert!(decode(&image) == *end, "seed {seed}: lists leave another system");
+    places_lack(dice, &image, done, seed, ways);
+}
+
+/// As many steps of a list are done as there are places for their numbers.
+fn places_lack(dice: &mut Dice, image: &Image, list: &[(Step, u8)], seed: u64, ways: &mut Ways) {
+    let bytes: Vec<u8> = list.iter().flat_map(|&(step, _)| our_step(step).bytes()).collect();
+    let places = dice.roll(list.len());
+    let mut system = decode(image);
+    let wanted: Vec<u8> =
+        list[..places].iter().map(|&(step, _)| number(step.run(&mut system))).collect();
+    let (mut after, mut numbers) = (*image, vec![GUARD; places]);
+    assert_eq!(ours::steps_into(&mut after, &bytes, &mut numbers), places, "seed {seed}");
+    assert!(numbers == wanted && decode(&after) == system, "seed {seed}: {places} places");
+    ways.count(By::Image, "list with too few places");
+}
+
+/// Does the step on an image with any bytes where they mean nothing.
+fn littered(dice: &mut Dice, image: &mut Image, step: Step, seed: u64, ways: &mut Ways) -> u8 {
+    litter(dice, image);
+    let number = compare(image, step, seed, ways);
+    let done = number == 0;
+    ways.count(By::Image, if done { "0 among stray bytes" } else { "refused among stray bytes" });
+    number
 }
 
 /// The wrapper reads the same histories, and none of processes and positions that there are not.
 fn entries(image: &Image, seed: u64) {
-    let (ours, system) = (ours::System::from_image(*image), decode(image).expect("an image"));
+    let (ours, system) = (ours::System::from_image(*image), decode(image));
     for (p, i) in (0..=u8::MAX).flat_map(|p| (0..=40).map(move |i| (p, i))) {
-        let there = (1..=8).contains(&p) && (1..=32).contains(&i);
-        let entry = there.then(|| system.process(ProcessId(p)).history[usize::from(i) - 1].0);
+        let there = (1..=system.n).contains(&p) && (1..=32).contains(&i);
+        let entry = there.then(|| system.process(ProcessId(p)).entry(GroupIndex(i)).0);
         assert_eq!(ours.entry(p, i), entry.filter(|&view| view != 0), "seed {seed}: {p} at {i}");
     }
 }
@@ -122,7 +210,7 @@ fn reached(dice: &mut Dice, n: u8) -> System {
     let mut system = reference::fresh(n).1;
     let mix = dice.mix(n);
     for _ in 0..dice.roll(60) {
-        let _ = dice.likely_step(&system, mix).run_on_sound(&mut system);
+        let _ = dice.likely_step(&system, mix).run(&mut system);
     }
     system
 }
@@ -144,16 +232,18 @@ fn handed_in(seed: u64, ways: &mut Ways) {
     }
     if dice.one_in(50) {
         image.iter_mut().for_each(|byte| *byte = dice.byte());
+        image[0] = if dice.one_in(2) { n } else { image[0] };
         return refused_with_1(&mut dice, image, seed, "1 any bytes", ways);
     }
     compare(&mut image.clone(), due, seed, ways);
+    littered(&mut dice, &mut image.clone(), due, seed, ways);
     for _ in 0..10 {
         let step = dice.any_step(n);
         compare(&mut image.clone(), step, seed, ways);
     }
 }
 
-/// One sentence of soundness broken in a sound system, or one byte damaged: each step gives 1.
+/// One sentence of soundness broken, in a sound system or in its image: each step gives 1.
 fn damaged(seed: u64, ways: &mut Ways) {
     let mut dice = Dice::new(seed ^ 0xda3a6ed);
     let n = dice.one_of(8).0;
@@ -170,11 +260,10 @@ fn damaged(seed: u64, ways: &mut Ways) {
             refused_with_1(&mut dice, encode(&broken), seed, name, ways);
         }
     }
-    for (name, place) in DAMAGES {
+    for (name, damage) in DAMAGES {
         let mut image = encode(&system);
-        let (at, highest) = place(&mut dice);
-        image[at] = dice.pick(&[highest + 1, highest + 2, 128, 255]);
-        assert!(decode(&image).is_none(), "seed {seed}: {name}");
+        damage(&mut dice, &mut image, p, q);
+        assert!(!sound(&decode(&image)), "seed {seed}: {name}");
         refused_with_1(&mut dice, image, seed, name, ways);
     }
 }
@@ -209,10 +298,11 @@ fn wrong_lengths(ways: &mut Ways) {
     }
 }
 
-/// A sheet, and each line's way and number.
+/// A sheet; its processes, if its first line is good; and each line's way and number.
 #[derive(Default)]
 struct Sheet {
     text: Vec<u8>,
+    n: Option<u8>,
     lines: Vec<(&'static str, u8)>,
 }
 
@@ -226,7 +316,7 @@ impl Sheet {
     /// The line of a step, which the system makes too.
     fn add_step(&mut self, step: Step, system: &mut System) {
         let before = system.clone();
-        let number = number(step.run_on_sound(system));
+        let number = number(step.run(system));
         self.add(line(step).as_bytes(), way(&before, step, number), number);
     }
 }
@@ -247,6 +337,7 @@ fn written(dice: &mut Dice, n: u8) -> Sheet {
         }
     } else {
         // A good first line is not printed, so this way is not counted.
+        sheet.n = Some(n);
         sheet.add(format!("u {n}").as_bytes(), "", 0);
         let mut system = reference::fresh(n).1;
         if dice.one_in(4) {
@@ -269,11 +360,18 @@ fn written(dice: &mut Dice, n: u8) -> Sheet {
     }
     if dice.one_in(60) && sheet.text.len() < SHEET_LIMIT {
         sheet.text.resize(SHEET_LIMIT + dice.pick(&[0, 1, 2, 100_000]), b'\n');
+        sheet.lines.resize(line_count(&sheet.text), ("8 empty line", 8));
     }
     if dice.one_in(200) {
         sheet = Sheet::default();
     }
     sheet
+}
+
+/// How many lines a text has, the last of which may lack its line feed.
+fn line_count(text: &[u8]) -> usize {
+    let ended = text.iter().filter(|byte| **byte == b'\n').count();
+    ended + usize::from(text.last().is_some_and(|byte| *byte != b'\n'))
 }
 
 /// A whole sheet: the outputs are the same, and so are they in a buffer of any room.
@@ -282,6 +380,7 @@ fn sheet(seed: u64, ways: &mut Ways) {
     let sheet = written(&mut dice, 1 + (seed % 8) as u8);
     let wanted = reference::run_sheet(&sheet.text);
     assert!(ours::run_sheet(&sheet.text) == wanted, "seed {seed}: the outputs differ");
+    assert!(rival::run_sheet(&sheet.text) == wanted, "seed {seed}: the rival's output differs");
     count_lines(&sheet, &wanted, seed, ways);
     let short = dice.roll(wanted.len() + 1);
     let room = dice.pick(&[0, short, wanted.len(), wanted.len() + 9]);
@@ -305,12 +404,17 @@ fn count_lines(sheet: &Sheet, wanted: &[u8], seed: u64, ways: &mut Ways) {
     if sheet.text.last().is_some_and(|&byte| byte != b'\n') {
         count("no line feed at the end");
     }
-    let bad_first = wanted.starts_with(b"1 8\n");
-    let lines = sheet.lines.iter().zip(1..).skip(if bad_first { 0 } else { 1 });
-    for ((&(way, number), at), printed) in lines.zip(wanted.split(|&byte| byte == b'\n')) {
-        assert!(printed == format!("{at} {number}").as_bytes(), "seed {seed}, line {at}");
+    assert_eq!(sheet.lines.len(), line_count(&sheet.text), "seed {seed}");
+    let printed: Vec<&[u8]> = wanted.split_inclusive(|&byte| byte == b'\n').collect();
+    let unprinted = usize::from(sheet.n.is_some());
+    let numbered = sheet.lines.len() - unprinted;
+    assert_eq!(printed.len(), numbered + usize::from(sheet.n.unwrap_or(0)), "seed {seed}");
+    let lines = sheet.lines.iter().zip(1..).skip(unprinted);
+    for ((&(way, number), at), printed) in lines.zip(&printed[..numbered]) {
+        assert!(*printed == format!("{at} {number}\n").as_bytes(), "seed {seed}, line {at}");
         count(way);
     }
+    assert!(printed[numbered..].iter().all(|line| line.starts_with(b"unit ")), "seed {seed}");
 }
 
 /// A buffer gets as much of the output as it has room for, and nothing past that is written.

@@ -2,7 +2,7 @@
 
 #![allow(dead_code)]
 
-use reference::{fresh, run_sheet, GroupIndex, Message, ProcessId, Proposal, System, View};
+use reference::{fresh, number, run_sheet, GroupIndex, Message, ProcessId, Proposal, System, View};
 
 /// The sheet's text.
 pub fn sheet(short: &str) -> String {
@@ -29,7 +29,7 @@ pub fn printed(text: &str) -> String {
 /// A fresh system of a good size.
 pub fn system(n: u8) -> System {
     let (outcome, system) = fresh(n);
-    assert_eq!(outcome, Ok(()));
+    assert_eq!(number(outcome), 0);
     system
 }
 
@@ -37,41 +37,43 @@ pub fn id(p: u8) -> ProcessId {
     ProcessId(p)
 }
 
-pub fn at(view: u8, index: u8) -> Proposal {
-    Proposal { view: View(view), index: GroupIndex(index) }
+pub fn index(i: u8) -> GroupIndex {
+    GroupIndex(i)
 }
 
-pub fn propose(view: u8, index: u8) -> Message {
-    Message::Propose(at(view, index))
+pub fn at(view: u8, i: u8) -> Proposal {
+    Proposal { view: View(view), index: index(i) }
 }
 
-pub fn commit(view: u8, index: u8) -> Message {
-    Message::Commit(at(view, index))
+pub fn propose(view: u8, i: u8) -> Message {
+    Message::Propose(at(view, i))
+}
+
+pub fn commit(view: u8, i: u8) -> Message {
+    Message::Commit(at(view, i))
 }
 
 pub fn retry(old: u8, new: u8) -> Message {
-    Message::Retry { old: GroupIndex(old), new: GroupIndex(new) }
+    Message::Retry { old: index(old), new: index(new) }
 }
 
-pub fn acc(index: u8) -> Message {
-    Message::Acc(GroupIndex(index))
+pub fn acc(i: u8) -> Message {
+    Message::Acc(index(i))
 }
 
-/// Puts messages on the empty channel from q to p.
+/// Puts messages on the channel from q to p, and nothing else.
 pub fn put(system: &mut System, q: u8, p: u8, messages: &[Message]) {
-    let channel = system.channel_mut(id(q), id(p));
-    channel.slots[..messages.len()].copy_from_slice(messages);
-    channel.len = messages.len() as u8;
+    *system.channel_mut(id(q), id(p)) = messages.to_vec();
 }
 
 /// What waits on the channel from q to p.
 pub fn waiting(system: &System, q: u8, p: u8) -> &[Message] {
-    system.channel(id(q), id(p)).waiting().unwrap()
+    system.channel(id(q), id(p))
 }
 
 /// Gives process p a proposal that it has sent.
-pub fn proposed(system: &mut System, p: u8, view: u8, index: u8) {
+pub fn proposed(system: &mut System, p: u8, view: u8, i: u8) {
     let process = system.process_mut(id(p));
     process.proposal = View(view);
-    process.propout = GroupIndex(index);
+    process.propout = index(i);
 }

@@ -45,10 +45,10 @@ use Rattle.sheet.proofs.reader.SheetReader as T
 use Rattle.sheet.proofs.reader.SheetReader.Laws as T′
 use Rattle.sheet.proofs.lines.Found as S
 use Rattle.sheet.proofs.lines.Found.Laws as S′
-use Rattle.sheet.proofs.reader.opened as opened
-use Rattle.sheet.proofs.reader.opened.Symbol as opened-def
-use Rattle.sheet.proofs.reader.opened.Symbol.{name as #sheet·opened}
-use Rattle.sheet.proofs.reader.opened.Met as opened-thm
+use Rattle.sheet.proofs.reader.opened_on as opened
+use Rattle.sheet.proofs.reader.opened_on.Symbol as opened-def
+use Rattle.sheet.proofs.reader.opened_on.Symbol.{name as #sheet·opened-on}
+use Rattle.sheet.proofs.reader.opened_on.Met as opened-thm
 use Rattle.sheet.proofs.reader.moved as moved
 use Rattle.sheet.proofs.reader.moved.Symbol as moved-def
 use Rattle.sheet.proofs.reader.moved.Symbol.{name as #sheet·moved}
@@ -101,7 +101,7 @@ module _ {M : Type 1} (𝓤 : URA M) (H : Heap 𝓤) (A : Atoms 𝓤) (W : Given
   abbrev Own : Fml
   Own = ShrSlice (named 0) κ u8 .own s (v ∷ [])
 
-  -- the call of `opened`: what it is passed, what it asks, and what is known of its result
+  -- the call of `opened_on`: what it is passed, what it asks, and what is known of its result
   abbrev to-opened : Opened 𝓤 H A mem run .Ghost
   to-opened = (((κ, tt), (q, tt), tt, (s, tt), (v ∷ [], tt)), tt)
 
@@ -142,7 +142,7 @@ module _ {M : Type 1} (𝓤 : URA M) (H : Heap 𝓤) (A : Atoms 𝓤) (W : Given
       suffices ! _ (ends-at 𝓤 H A read.ended stayed (read.clauses 𝓤 H A mem run) W (((κ, tt), (q, tt), tt, (s, (n, tt)), at), tt) u t (tt, (tt, tt)) (tt, (tt, tt))) $ says ! e $
       move ! (1 ∷ []) $ frame ! $ nothing ! $ owned ! usize (Is usize) (uint-makes 𝓤 H A W w64) n _ (refl, ok) $ fjoin ! $ move ! (2 ∷ 0 ∷ []) $ fjoin ! $ frame ! $ done !
 
-  module _ (C : Calls 𝓤 H) (Λ : Loops 𝓤 H) (fm : FmC 𝓤 H (W .laws) C) (known-opened : Triple 𝓤 (C #sheet·opened) (Opened 𝓤 H A mem run)) (known-moved : Triple 𝓤 (C #sheet·moved) (Moved 𝓤 H A mem run)) (known-current : Triple 𝓤 (C #sheet·current) (Current 𝓤 H A mem run)) where
+  module _ (C : Calls 𝓤 H) (Λ : Loops 𝓤 H) (fm : FmC 𝓤 H (W .laws) C) (known-opened : Triple 𝓤 (C #sheet·opened-on) (Opened 𝓤 H A mem run)) (known-moved : Triple 𝓤 (C #sheet·moved) (Moved 𝓤 H A mem run)) (known-current : Triple 𝓤 (C #sheet·current) (Current 𝓤 H A mem run)) where
     walk : Is (ShrSlice (named 0) κ u8) s (v ∷ []) → ent 𝓤 (onEntry 𝓤 H A read.signature (κ, tt) (q, tt) (s, (n, tt)) at) (WpFn 𝓤 H C Λ code.function (v ∷ vint w64 n ∷ []) Post)
     walk p =
         qed W (raw (onEntry 𝓤 H A read.signature (κ, tt) (q, tt) (s, (n, tt)) at) ∷ []) ∵ enter ! C Λ code.function (v ∷ vint w64 n ∷ []) _ $
@@ -174,13 +174,13 @@ module _ {M : Type 1} (𝓤 : URA M) (H : Heap 𝓤) (A : Atoms 𝓤) (W : Given
         by ! (exits t u″ (e″ ∙ (ap (λ (x : RefT (List ℕ)). lineAt (now x) (r′ .at)) (e′ .0 ∙ e .0) ∙ ap (lineAt (now s)) (e′ .1)))))))))))))))))))))
 
 module _ {M : Type 1} (𝓤 : URA M) (H : Heap 𝓤) (A : Atoms 𝓤) (W : Given 𝓤 H A) (mem : Memory → SProp 𝓤) (run : Routine → Fun 𝓤) where
-  read-walks : (C : Calls 𝓤 H) (Λ : Loops 𝓤 H) → FmC 𝓤 H (W .laws) C → Triple 𝓤 (C #sheet·opened) (Opened 𝓤 H A mem run) → Triple 𝓤 (C #sheet·moved) (Moved 𝓤 H A mem run) → Triple 𝓤 (C #sheet·current) (Current 𝓤 H A mem run)
+  read-walks : (C : Calls 𝓤 H) (Λ : Loops 𝓤 H) → FmC 𝓤 H (W .laws) C → Triple 𝓤 (C #sheet·opened-on) (Opened 𝓤 H A mem run) → Triple 𝓤 (C #sheet·moved) (Moved 𝓤 H A mem run) → Triple 𝓤 (C #sheet·current) (Current 𝓤 H A mem run)
       → Walks 𝓤 H A read.ended stayed (WpFn 𝓤 H C Λ code.function) (read.clauses 𝓤 H A mem run)
   read-walks C Λ fm known-opened known-moved known-current = walked 𝓤 H A read.ended stayed (read.clauses 𝓤 H A mem run) (WpFn 𝓤 H C Λ code.function) (λ κs. (slice-vals, (uint-vals w64, tt))) (λ κs. (shr-slice-tells (named 0) (κs .0) u8, (uint-tells w64, tt)))
       (λ κs qs bounds a g are. via 𝓤 _ (fst∗ 𝓤 _ (emp 𝓤)) (walk 𝓤 H A W mem run (κs .0) (qs .0) (a .0) (a .1 .0) (are .1 .0 .1) C Λ fm known-opened known-moved known-current (are .0)))
 
 read-meets : {M : Type 1} (𝓤 : URA M) (H : Heap 𝓤) (A : Atoms 𝓤) (W : Given 𝓤 H A) (mem : Memory → SProp 𝓤) (run : Routine → Fun 𝓤) (𝓣 : Tables 𝓤 H)
-    → Triple 𝓤 (𝓣 .C #sheet·opened) (Opened 𝓤 H A mem run) → Triple 𝓤 (𝓣 .C #sheet·moved) (Moved 𝓤 H A mem run) → Triple 𝓤 (𝓣 .C #sheet·current) (Current 𝓤 H A mem run)
+    → Triple 𝓤 (𝓣 .C #sheet·opened-on) (Opened 𝓤 H A mem run) → Triple 𝓤 (𝓣 .C #sheet·moved) (Moved 𝓤 H A mem run) → Triple 𝓤 (𝓣 .C #sheet·current) (Current 𝓤 H A mem run)
     → Meets 𝓤 H A read.signature (WpFn 𝓤 H (𝓣 .C) (𝓣 .Λ) code.function) (read.spec 𝓤 H A mem run)
 read-meets 𝓤 H A W mem run 𝓣 known-opened known-moved known-current = walk-meets 𝓤 H A read.ended stayed W (goes-none-slice 𝓤 H A W 1 (0 ∷ []) tt (plain (λ _. u8)) yes, (goes-none 𝓤 H A W 1 (λ _. usize) yes (λ κs x f. refl), tt)) (read.clauses 𝓤 H A mem run) (WpFn 𝓤 H (𝓣 .C) (𝓣 .Λ) code.function) (WpFn-mono 𝓤 H (W .laws) 𝓣 code.function)
     (read-walks 𝓤 H A W mem run (𝓣 .C) (𝓣 .Λ) (fmOf 𝓤 H (W .laws) 𝓣) known-opened known-moved known-current)
@@ -191,6 +191,6 @@ read-line-spec 𝓤 H 𝓜 𝓖 𝓡 =
     entered 𝓤 H (tripleOf 𝓤 H (𝓖 .A) read.signature (read.spec 𝓤 H (𝓖 .A) (𝓜 .mem) (𝓡 .run)))
     (tables 𝓤 H 𝓜 𝓡 code.env .C) (tables 𝓤 H 𝓜 𝓡 code.env .Λ) #sheet·read-line code.function (code.unfolded 𝓤 H 𝓜 𝓡)
     (read-meets 𝓤 H (𝓖 .A) (givenOf 𝓤 H 𝓜 𝓖) (𝓜 .mem) (𝓡 .run) (tablesOf 𝓤 H 𝓜 (tables 𝓤 H 𝓜 𝓡 code.env))
-    (cited 𝓤 H (Opened 𝓤 H (𝓖 .A) (𝓜 .mem) (𝓡 .run)) 𝓜 𝓡 code.env #sheet·opened opened-def.routine code.calls-sheet·reader·opened (opened-thm.met 𝓤 H 𝓜 𝓖 𝓡))
+    (cited 𝓤 H (Opened 𝓤 H (𝓖 .A) (𝓜 .mem) (𝓡 .run)) 𝓜 𝓡 code.env #sheet·opened-on opened-def.routine code.calls-sheet·reader·opened-on (opened-thm.met 𝓤 H 𝓜 𝓖 𝓡))
     (cited 𝓤 H (Moved 𝓤 H (𝓖 .A) (𝓜 .mem) (𝓡 .run)) 𝓜 𝓡 code.env #sheet·moved moved-def.routine code.calls-sheet·reader·moved (moved-thm.met 𝓤 H 𝓜 𝓖 𝓡))
     (cited 𝓤 H (Current 𝓤 H (𝓖 .A) (𝓜 .mem) (𝓡 .run)) 𝓜 𝓡 code.env #sheet·current current-def.routine code.calls-sheet·reader·current (current-thm.met 𝓤 H 𝓜 𝓖 𝓡)))

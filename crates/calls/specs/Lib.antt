@@ -1,0 +1,2 @@
+-- A run of calls on one image.
+pub mod Calls

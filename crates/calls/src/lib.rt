@@ -1,0 +1,1 @@
+// No code: what a run of calls on one image comes to.

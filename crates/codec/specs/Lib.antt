@@ -1,0 +1,2 @@
+-- What writing a part of an image promises.
+pub mod Put

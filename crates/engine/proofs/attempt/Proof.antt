@@ -1,0 +1,55 @@
+-- `engine::attempt`: by its tests, one after the other.
+use Rattle.engine.proofs.Given.{turned-away, plan-refused, no-room, done-gives}
+use borrow.Author.Needs.{needs}
+use Rattle.engine.proofs.attempt.Statement.{statement}
+use Rattle.engine.proofs.attempt.Tie as tie
+
+returns : tie.Need-returns
+returns c =
+    done-gives _ _ _ (c .before .before .before .before .before .before .before .before .before .before .before .before .before .before .scope-of .ensures)
+    _ (c .before .before .before .before .before .before .before .before .before .before .before .before .guard .ensures)
+    (c .before .before .before .before .before .before .before .before .before .before .before .if1 .taken)
+    _ (c .before .before .before .before .before .before .before .before .before .plan-of .ensures)
+    (c .before .before .before .before .before .before .before .if2 .taken)
+    _ (c .before .before .before .before .before .room .ensures)
+    (c .before .before .before .before .if3 .taken)
+    _ (c .before .before .carry-out .ensures)
+
+returns-2 : tie.Need-returns-2
+returns-2 c =
+    no-room _ _ _ (c .before .before .before .before .before .before .before .before .before .before .scope-of .ensures)
+    _ (c .before .before .before .before .before .before .before .before .guard .ensures)
+    (c .before .before .before .before .before .before .before .if1 .taken)
+    _ (c .before .before .before .before .before .plan-of .ensures)
+    (c .before .before .before .if2 .taken)
+    _ (c .before .room .ensures)
+    (c .if3 .left)
+
+returns-3 : tie.Need-returns-3
+returns-3 c =
+    plan-refused _ _ _ (c .before .before .before .before .before .before .before .scope-of .ensures)
+    _ (c .before .before .before .before .before .guard .ensures)
+    (c .before .before .before .before .if1 .taken)
+    _ (c .before .before .plan-of .ensures)
+    (c .if2 .left)
+
+returns-4 : tie.Need-returns-4
+returns-4 c = turned-away _ _ _ (c .before .before .before .scope-of .ensures) _ (c .before .guard .ensures) (c .if1 .left)
+
+pub attempt-spec : {M : Type 1} → statement M
+attempt-spec =
+    tie.close
+    (tie.spec
+    (λ c κs. search needs)
+    (λ c κs. search needs)
+    (λ c κs. search needs)
+    (λ c κs. search needs)
+    (λ c κs. search needs)
+    (λ c. search needs)
+    returns
+    (λ c. search needs)
+    returns-2
+    (λ c. search needs)
+    returns-3
+    (λ c. search needs)
+    returns-4)

@@ -1,0 +1,75 @@
+-- What a step, and a list of steps, on an image answers and leaves in it.
+use Prim.Native.Nat.{ℕ, zero, suc, _+_, _-_, _*_, _/_, _%_, min}
+use mathlib.Core.Path.{_≡_}
+use mathlib.Core.Bool.{true}
+use mathlib.Core.List.{List, [], _∷_, _++_}
+use lib.Dec.{eqb, ltb}
+use lib.ListN.{length, getD, drop}
+use Rattle.view.specs.Logic.{pick}
+use Rattle.system.specs.declared.System.{System}
+use Rattle.system.specs.declared.Outcome.{Outcome}
+use Rattle.system.specs.System.{refused}
+use Rattle.sound.specs.Sound.{soundSystem}
+use Rattle.plan.specs.declared.Step.{Step}
+use Rattle.plan.specs.declared.Step.the-variants as Step
+use Rattle.step.specs.Step.{attempted, stepped}
+use Rattle.image.specs.Image.{systemIn}
+use Rattle.engine.specs.declared.Order.{Order}
+use Rattle.engine.specs.declared.Order.the-variants.{Unknown, Do}
+
+-- bytes b become bytes c and the number k is answered: that is the outcome o, and where it is refused every byte is as it was
+pub record Gives (o : Outcome) (b : List ℕ) (k : ℕ) (c : List ℕ) : Type 0 where
+  pub outcome : record { refusal = k; system = systemIn c } ≡ o
+  pub kept : (k ≡ 0 → ⊥) → c ≡ b
+
+-- a step on a system taken to be sound: where it is, the outcome is the step's, and the bytes hold a sound system again
+pub record Attempts (o : Step) (b : List ℕ) (k : ℕ) (c : List ℕ) : Type 0 where
+  pub gives : Gives (attempted (systemIn b) o) b k c
+  pub steps : soundSystem (systemIn b) ≡ true → Gives (stepped (systemIn b) o) b k c
+  pub stays : soundSystem (systemIn b) ≡ true → soundSystem (systemIn c) ≡ true
+
+-- ---- a list of steps, three bytes each: its kind and what it names
+-- a kind that there is not is no step
+unfoldable pub orderOf : ℕ → ℕ → ℕ → Order
+orderOf kind x y =
+    pick (eqb kind 0) (Do (Step.Report (record { 0 = x }) y))
+    (pick (eqb kind 1) (Do (Step.Receive (record { 0 = x }) (record { 0 = y })))
+    (pick (eqb kind 2) (Do (Step.Respond (record { 0 = x }) (record { 0 = y })))
+    (pick (eqb kind 3) (Do (Step.Crash (record { 0 = x }))) Unknown)))
+
+-- the order that begins at a place: bytes that break off inside a step are no step either
+unfoldable pub orderAt : List ℕ → ℕ → Order
+orderAt l at = pick (ltb 2 (length l - at)) (orderOf (getD l at 0) (getD l (at + 1) 0) (getD l (at + 2) 0)) Unknown
+
+-- how many orders a list has, one that breaks off among them
+unfoldable pub orderCount : List ℕ → ℕ
+orderCount l = pick (eqb (length l % 3) 0) (length l / 3) (length l / 3 + 1)
+
+-- k orders of a list, from the one numbered i on, counted from 0
+unfoldable pub ordersFrom : ℕ → List ℕ → ℕ → List Order
+ordersFrom zero l i = []
+ordersFrom (suc k) l i = orderAt l (3 * i) ∷ ordersFrom k l (i + 1)
+
+-- its orders, as many of them as there are places for their numbers
+unfoldable pub ordersIn : ℕ → List ℕ → List Order
+ordersIn places l = ordersFrom (min places (orderCount l)) l 0
+
+-- what is no step is refused, with 8
+unfoldable pub obeyed : System → Order → Outcome
+obeyed s Unknown = refused 8 s
+obeyed s (Do o) = stepped s o
+
+-- each on the system that the one before left: the numbers answered, and the system in the end
+unfoldable pub numbersOf : System → List Order → List ℕ
+numbersOf s [] = []
+numbersOf s (o ∷ os) = obeyed s o .refusal ∷ numbersOf (obeyed s o .system) os
+
+unfoldable pub systemAfter : System → List Order → System
+systemAfter s [] = s
+systemAfter s (o ∷ os) = systemAfter (obeyed s o .system) os
+
+-- a list of steps on bytes b, its numbers into a slice m: r were done; b becomes c, and m becomes their numbers with what lay past them
+pub record Performs (list b m : List ℕ) (r : ℕ) (c k : List ℕ) : Type 0 where
+  pub count : r ≡ length (ordersIn (length m) list)
+  pub system : systemIn c ≡ systemAfter (systemIn b) (ordersIn (length m) list)
+  pub numbers : k ≡ numbersOf (systemIn b) (ordersIn (length m) list) ++ drop r m

@@ -1,0 +1,304 @@
+// The one place where a step is done: on the image that the caller lends.
+ghost use Prim.Native.Nat.{min};
+ghost use mathlib.Core.Path.{_≡_};
+ghost use mathlib.Core.Bool.{_&&_, _||_};
+ghost use Rattle.view.specs.Logic.{pick, isOneOf};
+ghost use Rattle.channel.specs.Channel.{hasRoom};
+ghost use Rattle.system.specs.System.{processAt, variablesAt, withProcess, channelAt, sentIfNamed, broadcasted, roomFor};
+ghost use Rattle.sound.specs.Sound.{soundSystem};
+ghost use Rattle.plan.specs.Plan.{changed};
+ghost use Rattle.step.specs.Step.{planOf, takenOff, crashedAt, crashedIf, effected, stepped};
+ghost use Rattle.image.specs.Image.{systemIn};
+ghost use Rattle.engine.specs.Engine.{Gives, Attempts, orderOf, orderAt, orderCount, obeyed, Performs};
+use channel::Message;
+use image::clear;
+use image::front_at;
+use image::length_at;
+use image::pending_at;
+use image::pop;
+use image::push;
+use image::put_entry;
+use image::put_pending;
+use image::put_variables;
+use image::size;
+use image::variables_at;
+use plan::Change;
+use plan::Plan;
+use plan::Scope;
+use plan::Step;
+use plan::scope_of;
+use system::refusal::BAD_LINE;
+use system::refusal::CHANNEL_FULL;
+use system::refusal::CRASHED;
+use system::refusal::STRANGER;
+use system::refusal::UNSOUND;
+use view::GroupIndex;
+use view::ProcessId;
+use view::and;
+use view::has;
+use view::is_one_of;
+use view::or;
+
+// What the acting process plans.
+fn plan_of(image: &[u8], o: Step) -> Plan
+    ensures { λ r. ⌜ r ≡ planOf (systemIn (now (image .entry))) o ⌝ }
+{
+    match o {
+        Step::Report(p, view) => plan::report_plan(size(image), p, view, variables_at(image, p)),
+        Step::Receive(q, p) => {
+            plan::receive_plan(q, p, variables_at(image, p), front_at(image, q, p))
+        }
+        Step::Respond(p, q) => {
+            plan::respond_plan(q, variables_at(image, p), pending_at(image, p, q))
+        }
+        Step::Crash(p) => plan::crash_plan(variables_at(image, p)),
+    }
+}
+
+// Refusals 2 and 3, or 0.
+fn guard(image: &[u8], c: Scope) -> u8
+    ensures { λ r. ⌜ r ≡ pick (isOneOf (systemIn (now (image .entry)) .n) (c .actor .0) && isOneOf (systemIn (now (image .entry)) .n) (c .partner .0)) (pick (variablesAt (systemIn (now (image .entry))) (c .actor .0) .crashed) 3 0) 2 ⌝ }
+{
+    let n = size(image);
+    let p = c.actor;
+    let q = c.partner;
+    if and(is_one_of(n, p), is_one_of(n, q)) {
+        let x = variables_at(image, p);
+        if x.crashed { CRASHED } else { 0 }
+    } else {
+        STRANGER
+    }
+}
+
+// Process k has crashed, or the channel from the actor to it has room once the taken message is off.
+fn takes(image: &[u8], c: Scope, k: ProcessId) -> bool
+    ensures { λ r. ⌜ r ≡ (variablesAt (systemIn (now (image .entry))) (k .0) .crashed || hasRoom (channelAt (takenOff (systemIn (now (image .entry))) c) (c .actor .0) (k .0))) ⌝ }
+{
+    let p = c.actor;
+    let q = c.partner;
+    let x = variables_at(image, k);
+    let len = length_at(image, p, k);
+    // The message that is taken comes off the actor's channel to itself.
+    let own = and(and(c.takes, q.0 == p.0), k.0 == p.0);
+    or(x.crashed, or(len < 8, and(own, len == 8)))
+}
+
+// Refusal 7 is not given: each addressee takes the message. The turns end with the last addressee.
+fn room(image: &[u8], c: Scope, to: u8) -> bool
+    ensures { λ r. ⌜ r ≡ roomFor (takenOff (systemIn (now (image .entry))) c) (c .actor .0) to ⌝ }
+{
+    let mut ok = true;
+    let mut rest = to;
+    let mut i: u8 = 0;
+    while rest != 0 {
+        rest = rest / 2;
+        i += 1;
+        ok = and(
+            ok,
+            or(!has(to, ProcessId(i)), takes(image, c, ProcessId(i))),
+        );
+    }
+    ok
+}
+
+// One message from process q to process p, where it is named. To a crashed process it vanishes.
+fn send_if_named(image: &mut [u8], q: ProcessId, to: u8, m: Message, p: ProcessId)
+    ensures { λ r. ⌜ systemIn (now (image .exit)) ≡ sentIfNamed (q .0) to m (p .0) (systemIn (now (image .entry))) ⌝ }
+{
+    if has(to, p) {
+        let x = variables_at(image, p);
+        if x.crashed {
+            return;
+        }
+        push(image, q, p, m);
+    }
+}
+
+// One message from process q to every process of a view, in rising order.
+fn broadcast(image: &mut [u8], q: ProcessId, to: u8, m: Message)
+    ensures { λ r. ⌜ systemIn (now (image .exit)) ≡ broadcasted (systemIn (now (image .entry))) (q .0) to m ⌝ }
+{
+    let mut rest = to;
+    let mut i: u8 = 0;
+    while rest != 0 {
+        rest = rest / 2;
+        i += 1;
+        send_if_named(image, q, to, m, ProcessId(i));
+    }
+}
+
+// Process p stops: every channel towards it is emptied.
+fn crash(image: &mut [u8], p: ProcessId)
+    ensures { λ r. ⌜ systemIn (now (image .exit)) ≡ crashedAt (systemIn (now (image .entry))) (p .0) ⌝ }
+{
+    let mut x = variables_at(image, p);
+    x.crashed = true;
+    put_variables(image, p, x);
+    let mut q: u8 = 0;
+    while q < 8 {
+        q += 1;
+        clear(image, ProcessId(q), p);
+    }
+}
+
+// Process p changes as its plan says.
+fn change(image: &mut [u8], p: ProcessId, c: Change)
+    ensures { λ r. ⌜ systemIn (now (image .exit)) ≡ withProcess (systemIn (now (image .entry))) (p .0) (changed (processAt (systemIn (now (image .entry))) (p .0)) c) ⌝ }
+{
+    let x = c.variables;
+    let q = c.proposer;
+    let r = c.pending;
+    let i = c.index;
+    put_variables(image, p, x);
+    put_pending(image, p, q, r);
+    put_entry(image, p, i, c.entry);
+}
+
+// The oldest message from the partner comes off, where the step takes one.
+fn take_off(image: &mut [u8], c: Scope)
+    ensures { λ r. ⌜ systemIn (now (image .exit)) ≡ takenOff (systemIn (now (image .entry))) c ⌝ }
+{
+    let p = c.actor;
+    let q = c.partner;
+    if c.takes {
+        pop(image, q, p);
+    }
+}
+
+// Process p stops, where its plan says so.
+fn crash_if(image: &mut [u8], stops: bool, p: ProcessId)
+    ensures { λ r. ⌜ systemIn (now (image .exit)) ≡ crashedIf stops (systemIn (now (image .entry))) (p .0) ⌝ }
+{
+    if stops {
+        crash(image, p);
+    }
+}
+
+// The plan is carried out.
+fn carry_out(image: &mut [u8], c: Scope, a: Plan)
+    ensures { λ r. ⌜ systemIn (now (image .exit)) ≡ effected (takenOff (systemIn (now (image .entry))) c) (c .actor .0) a ⌝ }
+{
+    let p = c.actor;
+    let y = a.change;
+    let m = a.message;
+    take_off(image, c);
+    change(image, p, y);
+    broadcast(image, p, a.addressees, m);
+    crash_if(image, a.stops, p);
+}
+
+// The step, on an image whose system is taken to be sound: internal to runs that know it to be so.
+pub fn attempt(image: &mut [u8], o: Step) -> u8
+    ensures { λ r. ⌜ Attempts o (now (image .entry)) r (now (image .exit)) ⌝ }
+{
+    let c = scope_of(o);
+    let refusal = guard(image, c);
+    if refusal == 0 {
+        let a = plan_of(image, o);
+        if a.refusal == 0 {
+            if room(image, c, a.addressees) {
+                carry_out(image, c, a);
+                0
+            } else {
+                CHANNEL_FULL
+            }
+        } else {
+            a.refusal
+        }
+    } else {
+        refusal
+    }
+}
+
+// One step of any kind.
+pub fn perform(image: &mut [u8], o: Step) -> u8
+    ensures { λ r. ⌜ Gives (stepped (systemIn (now (image .entry))) o) (now (image .entry)) r (now (image .exit)) ⌝ }
+{
+    if integrity::sound(image) {
+        attempt(image, o)
+    } else {
+        UNSOUND
+    }
+}
+
+// What three bytes of a list of steps say.
+pub enum Order {
+    Unknown,
+    Do(Step),
+}
+
+fn order_of(kind: u8, x: u8, y: u8) -> Order
+    ensures { λ r. ⌜ r ≡ orderOf kind x y ⌝ }
+{
+    if kind == 0 {
+        Order::Do(Step::Report(ProcessId(x), y))
+    } else if kind == 1 {
+        Order::Do(Step::Receive(ProcessId(x), ProcessId(y)))
+    } else if kind == 2 {
+        Order::Do(Step::Respond(ProcessId(x), ProcessId(y)))
+    } else if kind == 3 {
+        Order::Do(Step::Crash(ProcessId(x)))
+    } else {
+        Order::Unknown
+    }
+}
+
+// What an order of a list does to an image whose system is sound, or is not.
+fn obey(image: &mut [u8], good: bool, order: Order) -> u8
+    requires { ⌜ good ≡ soundSystem (systemIn (now image)) ⌝ }
+    ensures { λ r. ⌜ (record { refusal = r; system = systemIn (now (image .exit)) } ≡ obeyed (systemIn (now (image .entry))) order) × (good ≡ soundSystem (systemIn (now (image .exit)))) ⌝ }
+{
+    match order {
+        Order::Unknown => BAD_LINE,
+        Order::Do(o) => { if good { attempt(image, o) } else { UNSOUND } }
+    }
+}
+
+// The order that begins at a place.
+fn order_at(list: &[u8], at: usize) -> Order
+    ensures { λ r. ⌜ r ≡ orderAt (now (list .entry)) at ⌝ }
+{
+    if at < list.len() {
+        if 2 < list.len() - at {
+            order_of(list[at], list[at + 1], list[at + 2])
+        } else {
+            Order::Unknown
+        }
+    } else {
+        Order::Unknown
+    }
+}
+
+// How many orders a list has, one that breaks off among them.
+fn order_count(list: &[u8]) -> usize
+    ensures { λ r. ⌜ r ≡ orderCount (now (list .entry)) ⌝ }
+{
+    let whole = list.len() / 3;
+    if list.len() % 3 == 0 {
+        whole
+    } else {
+        whole + 1
+    }
+}
+
+fn lesser(a: usize, b: usize) -> usize
+    ensures { λ r. ⌜ r ≡ min a b ⌝ }
+{
+    if a < b { a } else { b }
+}
+
+// A list of steps, three bytes each: kind 0 is a report (process, view), 1 a receive (from, at), 2 a
+// response (process, to), 3 a crash (process, any byte). Their numbers go into the lent slice: as many
+// steps are done as it has places. The answer is how many that were.
+pub fn perform_all(image: &mut [u8], list: &[u8], numbers: &mut [u8]) -> usize
+    ensures { λ r. ⌜ Performs (now (list .entry)) (now (image .entry)) (now (numbers .entry)) r (now (image .exit)) (now (numbers .exit)) ⌝ }
+{
+    let good = integrity::sound(image);
+    let total = lesser(numbers.len(), order_count(list));
+    let mut count = 0;
+    while count < total {
+        numbers[count] = obey(image, good, order_at(list, 3 * count));
+        count += 1;
+    }
+    count
+}

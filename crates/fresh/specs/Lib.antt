@@ -1,0 +1,2 @@
+-- How the image of a fresh system comes to be.
+pub mod Fresh

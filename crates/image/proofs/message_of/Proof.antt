@@ -1,0 +1,41 @@
+-- `image::message_of`: by its tag.
+use borrow.Author.Tests.{eq-eqb, ne-eqb}
+use Rattle.view.specs.Logic.{pick}
+use Rattle.image.specs.Image.{messageOf}
+use Rattle.image.proofs.message_of.Statement.{statement}
+use Rattle.image.proofs.message_of.Tie as tie
+
+returns : tie.Need-returns
+unfolding messageOf pick
+returns c = simp (eq-eqb _ _ (c .if1 .taken))
+
+returns-2 : tie.Need-returns-2
+unfolding messageOf pick
+returns-2 c = simp (ne-eqb _ _ (c .before .before .if1 .left), eq-eqb _ _ (c .if2 .taken))
+
+returns-3 : tie.Need-returns-3
+unfolding messageOf pick
+returns-3 c = simp (ne-eqb _ _ (c .before .before .before .before .if1 .left), ne-eqb _ _ (c .before .before .if2 .left), eq-eqb _ _ (c .if3 .taken))
+
+returns-4 : tie.Need-returns-4
+unfolding messageOf pick
+returns-4 c =
+    simp (
+      ne-eqb _ _ (c .before .before .before .before .before .before .if1 .left),
+      ne-eqb _ _ (c .before .before .before .before .if2 .left),
+      ne-eqb _ _ (c .before .before .if3 .left),
+      eq-eqb _ _ (c .if4 .taken),
+    )
+
+returns-5 : tie.Need-returns-5
+unfolding messageOf pick
+returns-5 c =
+    simp (
+      ne-eqb _ _ (c .before .before .before .before .before .before .if1 .left),
+      ne-eqb _ _ (c .before .before .before .before .if2 .left),
+      ne-eqb _ _ (c .before .before .if3 .left),
+      ne-eqb _ _ (c .if4 .left),
+    )
+
+pub message-of-spec : {M : Type 1} → statement M
+message-of-spec = tie.close (tie.spec returns returns-2 returns-3 returns-4 returns-5)

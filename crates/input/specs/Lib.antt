@@ -1,0 +1,2 @@
+-- Reading a sheet whole.
+pub mod Received

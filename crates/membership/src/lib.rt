@@ -1,0 +1,56 @@
+// The typed library: a step on a system by value. Each is the engine's, between encoding and decoding.
+ghost use mathlib.Core.Path.{_≡_};
+ghost use lib.ListN.{length};
+ghost use Rattle.plan.specs.declared.Step.{Step};
+ghost use Rattle.step.specs.Step.{stepped};
+ghost use Rattle.image.specs.Image.{imageWidth};
+use plan::Step;
+use system::Outcome;
+use system::System;
+use view::ProcessId;
+
+// The bytes for an image.
+fn image_buffer() -> [u8; 2097]
+    ensures { λ r. ⌜ length r ≡ imageWidth ⌝ }
+{
+    [0; 2097]
+}
+
+// One step of any kind.
+pub fn perform(s: System, o: Step) -> Outcome
+    ensures { λ r. ⌜ r ≡ stepped s o ⌝ }
+{
+    let mut image = image_buffer();
+    codec::encode(s, &mut image);
+    let refusal = engine::perform(&mut image, o);
+    let system = codec::decode(&image);
+    Outcome { refusal, system }
+}
+
+// Process p is told its view.
+pub fn report(s: System, p: ProcessId, view: u8) -> Outcome
+    ensures { λ r. ⌜ r ≡ stepped s (Step.Report p view) ⌝ }
+{
+    perform(s, Step::Report(p, view))
+}
+
+// Process p takes the oldest message from process q.
+pub fn receive(s: System, q: ProcessId, p: ProcessId) -> Outcome
+    ensures { λ r. ⌜ r ≡ stepped s (Step.Receive q p) ⌝ }
+{
+    perform(s, Step::Receive(q, p))
+}
+
+// Process p answers the proposal that it recorded from process q.
+pub fn respond(s: System, p: ProcessId, q: ProcessId) -> Outcome
+    ensures { λ r. ⌜ r ≡ stepped s (Step.Respond p q) ⌝ }
+{
+    perform(s, Step::Respond(p, q))
+}
+
+// Process p stops for good.
+pub fn crash(s: System, p: ProcessId) -> Outcome
+    ensures { λ r. ⌜ r ≡ stepped s (Step.Crash p) ⌝ }
+{
+    perform(s, Step::Crash(p))
+}

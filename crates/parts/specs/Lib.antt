@@ -1,2 +1,0 @@
--- A step in parts.
-pub mod Parts

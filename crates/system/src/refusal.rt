@@ -1,0 +1,30 @@
+// The refusal table of document 01. 0 stands for a step that is done.
+
+// "the table is not sound"
+pub const UNSOUND: u8 = 1;
+
+// "a unit number in the step is not 1 to n, or a fresh table is wanted of a wrong size"
+pub const STRANGER: u8 = 2;
+
+// "the unit that would act has stopped"
+pub const CRASHED: u8 = 3;
+
+// "a report names a unit beyond n, or lacks its own unit"
+pub const ODD_VIEW: u8 = 4;
+
+// "taking from an empty line; answering with no recorded proposal, or with one whose view is not the
+// local view"
+pub const NOTHING_THERE: u8 = 5;
+
+// "a report by the least unit of its view with PropOut 32; a Retry that would be acted on, with new
+// 33"
+pub const HISTORY_FULL: u8 = 6;
+
+// "a message of this step goes to a unit that has not stopped, over a line that already holds 8"
+pub const CHANNEL_FULL: u8 = 7;
+
+// "a sheet line is not of the form below"
+pub const BAD_LINE: u8 = 8;
+
+// "a sheet of more than 60,000 bytes"
+pub const LONG_SHEET: u8 = 9;

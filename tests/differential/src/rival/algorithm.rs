@@ -1,0 +1,159 @@
+//! The guarded commands of Figure 3, with refusals 2 to 7. The system must
+//! be sound: nothing here tests it, and on another a step may panic. A
+//! refused step leaves the system as it was.
+
+use super::channel::Channel;
+use super::message::{GroupIndex, Message, Proposal, LAST_INDEX};
+use super::refusal::{Outcome, Refusal};
+use super::system::System;
+use super::view::{ProcessId, View};
+
+/// Process p is told its local view.
+pub fn report(system: &mut System, p: ProcessId, view: View) -> Outcome {
+    require_known(system, p)?;
+    require_live(system, p)?;
+    if !view.is_subset(system.everyone()) || !view.contains(p) {
+        return Err(Refusal::OddView);
+    }
+    if view.min() == Some(p) {
+        let propout = system.process(p).propout;
+        if propout.0 >= LAST_INDEX {
+            return Err(Refusal::HistoryFull);
+        }
+        system.require_room(p, view)?;
+        system.process_mut(p).proposal = view;
+        propose(system, p, view, propout.successor());
+    }
+    system.process_mut(p).view = view;
+    Ok(())
+}
+
+/// Process p receives the oldest message from q (document 01: take).
+pub fn receive(system: &mut System, q: ProcessId, p: ProcessId) -> Outcome {
+    require_known(system, q)?;
+    require_known(system, p)?;
+    require_live(system, p)?;
+    let message = system.channel(q, p).front().ok_or(Refusal::NothingThere)?;
+    match message {
+        Message::Propose(proposal) => {
+            system.channel_mut(q, p).drop_front();
+            system.process_mut(p).recorded[q.slot()] = Some(proposal);
+            Ok(())
+        }
+        Message::Retry { old, new } => receive_retry(system, q, p, old, new),
+        Message::Acc(index) => receive_acc(system, q, p, index),
+        Message::Commit(Proposal { view, index }) => {
+            system.channel_mut(q, p).drop_front();
+            system.process_mut(p).history[index.slot()] = view;
+            Ok(())
+        }
+    }
+}
+
+fn receive_retry(
+    system: &mut System,
+    q: ProcessId,
+    p: ProcessId,
+    old: GroupIndex,
+    new: GroupIndex,
+) -> Outcome {
+    let process = system.process(p);
+    let view = process.view;
+    if process.propout != old || view.min() != Some(p) {
+        system.channel_mut(q, p).drop_front();
+        return Ok(());
+    }
+    if new.0 > LAST_INDEX {
+        return Err(Refusal::HistoryFull);
+    }
+    system.require_room(p, contended(view, q, p))?;
+    system.channel_mut(q, p).drop_front();
+    propose(system, p, view, new);
+    Ok(())
+}
+
+fn receive_acc(system: &mut System, q: ProcessId, p: ProcessId, index: GroupIndex) -> Outcome {
+    let process = system.process(p);
+    let (view, propout) = (process.proposal, process.propout);
+    let acks = if index == propout { process.acks.with(q) } else { process.acks };
+    // The departure from the figure: an empty last proposed view is never
+    // complete.
+    if view.is_empty() || !view.is_subset(acks) {
+        system.channel_mut(q, p).drop_front();
+        system.process_mut(p).acks = acks;
+        return Ok(());
+    }
+    system.require_room(p, contended(view, q, p))?;
+    system.channel_mut(q, p).drop_front();
+    system.process_mut(p).acks = View::EMPTY;
+    system.broadcast(p, view, Message::Commit(Proposal { view, index: propout }));
+    Ok(())
+}
+
+/// Process p responds to the recorded proposal of q (document 01: answer).
+pub fn respond(system: &mut System, p: ProcessId, q: ProcessId) -> Outcome {
+    require_known(system, p)?;
+    require_known(system, q)?;
+    require_live(system, p)?;
+    let process = system.process(p);
+    let index = match process.recorded[q.slot()] {
+        Some(proposal) if proposal.view == process.view => proposal.index,
+        _ => return Err(Refusal::NothingThere),
+    };
+    system.require_room(p, View::only(q))?;
+    let process = system.process_mut(p);
+    process.recorded[q.slot()] = None;
+    let reply = if index < process.next {
+        Message::Retry { old: index, new: process.next }
+    } else {
+        process.next = index.successor();
+        Message::Acc(index)
+    };
+    system.broadcast(p, View::only(q), reply);
+    Ok(())
+}
+
+/// Process p stops for good (document 01: stop).
+pub fn crash(system: &mut System, p: ProcessId) -> Outcome {
+    require_known(system, p)?;
+    require_live(system, p)?;
+    system.process_mut(p).crashed = true;
+    for row in &mut system.channels {
+        row[p.slot()] = Channel::EMPTY;
+    }
+    Ok(())
+}
+
+/// Proposes a view at an index; there must be room.
+fn propose(system: &mut System, p: ProcessId, view: View, index: GroupIndex) {
+    let process = system.process_mut(p);
+    process.propout = index;
+    process.acks = View::EMPTY;
+    system.broadcast(p, view, Message::Propose(Proposal { view, index }));
+}
+
+/// Those for whom room must be asked when p sends to a view upon a message
+/// from q: a message from p itself frees the slot that p's own copy needs.
+fn contended(view: View, q: ProcessId, p: ProcessId) -> View {
+    if q == p {
+        view.without(p)
+    } else {
+        view
+    }
+}
+
+fn require_known(system: &System, p: ProcessId) -> Outcome {
+    if (1..=system.n).contains(&p.0) {
+        Ok(())
+    } else {
+        Err(Refusal::Stranger)
+    }
+}
+
+fn require_live(system: &System, p: ProcessId) -> Outcome {
+    if system.process(p).crashed {
+        Err(Refusal::Crashed)
+    } else {
+        Ok(())
+    }
+}

@@ -1,0 +1,71 @@
+//! The same algorithm once more, tuned for speed, as the benchmark's rival:
+//! it works in place, tests soundness only where it may be missing, and
+//! looks at a message before it takes it off. What it does is compared with
+//! the reference by the differential test, as the library is.
+
+pub mod image;
+
+mod algorithm;
+mod channel;
+mod message;
+mod process;
+mod refusal;
+mod sheet;
+mod soundness;
+mod step;
+mod system;
+mod view;
+
+pub use refusal::number;
+pub use sheet::run_sheet_onto;
+use soundness::sound;
+pub use step::Step;
+pub use view::{ProcessId, View};
+
+/// What is printed for a sheet.
+pub fn run_sheet(sheet: &[u8]) -> Vec<u8> {
+    let mut out = Vec::new();
+    run_sheet_onto(&mut out, sheet);
+    out
+}
+
+/// Does a step on an image; answers its number.
+pub fn step_on(image: &mut image::Image, step: Step) -> u8 {
+    let Some(mut system) = image::decode(image) else {
+        return 1;
+    };
+    let number = number(step.run(&mut system));
+    if number == 0 {
+        *image = image::encode(&system);
+    }
+    number
+}
+
+/// Does a list of steps on an image, soundness tested once; the numbers go into the slice.
+pub fn steps_on(image: &mut image::Image, steps: &[Step], numbers: &mut [u8]) {
+    match image::decode(image).filter(sound) {
+        None => numbers.fill(1),
+        Some(mut system) => {
+            for (step, answer) in steps.iter().zip(numbers) {
+                *answer = number(step.run_on_sound(&mut system));
+            }
+            *image = image::encode(&system);
+        }
+    }
+}
+
+/// The step as the rival has it.
+pub fn rival_step(step: reference::Step) -> Step {
+    match step {
+        reference::Step::Report { p, view } => {
+            Step::Report { p: ProcessId(p.0), view: View(view.0) }
+        }
+        reference::Step::Receive { from, at } => {
+            Step::Receive { from: ProcessId(from.0), at: ProcessId(at.0) }
+        }
+        reference::Step::Respond { p, to } => {
+            Step::Respond { p: ProcessId(p.0), to: ProcessId(to.0) }
+        }
+        reference::Step::Crash { p } => Step::Crash { p: ProcessId(p.0) },
+    }
+}

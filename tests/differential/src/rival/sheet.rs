@@ -1,0 +1,126 @@
+//! The trainee's sheet: its lines, its run and what is printed.
+
+use super::refusal::{number, Outcome, Refusal};
+use super::step::Step;
+use super::system::System;
+use super::view::{ProcessId, View};
+
+/// The most bytes a sheet may have.
+pub const SHEET_LIMIT: usize = 60_000;
+
+/// Runs a sheet and appends what is printed for it to what `out` has.
+pub fn run_sheet_onto(out: &mut Vec<u8>, sheet: &[u8]) {
+    if sheet.len() > SHEET_LIMIT {
+        print_outcome(out, 0, Err(Refusal::LongSheet));
+        return;
+    }
+    let mut lines = lines(sheet).zip(1..);
+    let Some((first, _)) = lines.next() else {
+        return;
+    };
+    match parse_size(first) {
+        Some(n) => {
+            // A fresh system is sound and steps keep it so.
+            let mut system = System::initial(n);
+            for (line, line_number) in lines {
+                let outcome = match parse_step(line) {
+                    Some(step) => step.run_on_sound(&mut system),
+                    None => Err(Refusal::BadLine),
+                };
+                print_outcome(out, line_number, outcome);
+            }
+            print_processes(out, &system);
+        }
+        None => {
+            print_outcome(out, 1, Err(Refusal::BadLine));
+            for (_, line_number) in lines {
+                print_outcome(out, line_number, Err(Refusal::BadLine));
+            }
+        }
+    }
+}
+
+/// The lines, without their line feeds; the last may lack its own.
+fn lines(sheet: &[u8]) -> impl Iterator<Item = &[u8]> {
+    sheet
+        .split_inclusive(|&byte| byte == b'\n')
+        .map(|line| line.strip_suffix(b"\n").unwrap_or(line))
+}
+
+/// The first line, `u N`.
+fn parse_size(line: &[u8]) -> Option<u8> {
+    match line {
+        &[b'u', b' ', n @ b'1'..=b'8'] => Some(n - b'0'),
+        _ => None,
+    }
+}
+
+/// Any later line.
+fn parse_step(line: &[u8]) -> Option<Step> {
+    match *line {
+        [b'r', b' ', p, b' ', ref view @ ..] => {
+            Some(Step::Report { p: parse_process(p)?, view: parse_view(view)? })
+        }
+        [b't', b' ', q, b' ', p] => {
+            Some(Step::Receive { from: parse_process(q)?, at: parse_process(p)? })
+        }
+        [b'a', b' ', p, b' ', q] => {
+            Some(Step::Respond { p: parse_process(p)?, to: parse_process(q)? })
+        }
+        [b's', b' ', p] => Some(Step::Crash { p: parse_process(p)? }),
+        _ => None,
+    }
+}
+
+/// Any digit; one that names nobody is the step's own affair.
+fn parse_process(byte: u8) -> Option<ProcessId> {
+    byte.is_ascii_digit().then(|| ProcessId(byte - b'0'))
+}
+
+/// `-`, or digits 1 to 8 strictly rising.
+fn parse_view(field: &[u8]) -> Option<View> {
+    if field == b"-" {
+        return Some(View::EMPTY);
+    }
+    let (mut view, mut last) = (View::EMPTY, b'0');
+    for &digit in field {
+        if digit <= last || digit > b'8' {
+            return None;
+        }
+        view = view.with(ProcessId(digit - b'0'));
+        last = digit;
+    }
+    (!view.is_empty()).then_some(view)
+}
+
+fn print_outcome(out: &mut Vec<u8>, line_number: u32, outcome: Outcome) {
+    print_number(out, line_number);
+    out.extend([b' ', b'0' + number(outcome), b'\n']);
+}
+
+fn print_processes(out: &mut Vec<u8>, system: &System) {
+    for p in system.everyone().members() {
+        let process = system.process(p);
+        out.extend_from_slice(b"unit ");
+        print_number(out, p.0.into());
+        out.extend_from_slice(if process.crashed { b" stopped next " } else { b" live next " });
+        print_number(out, process.next.0.into());
+        for (&view, index) in process.history.iter().zip(1..) {
+            if !view.is_empty() {
+                out.push(b' ');
+                print_number(out, index);
+                out.push(b'=');
+                out.extend(view.members().map(|q| b'0' + q.0));
+            }
+        }
+        out.push(b'\n');
+    }
+}
+
+/// A number in decimal.
+fn print_number(out: &mut Vec<u8>, number: u32) {
+    if number >= 10 {
+        print_number(out, number / 10);
+    }
+    out.push(b'0' + (number % 10) as u8);
+}
