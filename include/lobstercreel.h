@@ -57,11 +57,13 @@ enum {
     LOBSTERCREEL_STRANGER = 2,     /* a unit number is not 1 to n */
     LOBSTERCREEL_STOPPED = 3,      /* the unit that would act has stopped */
     LOBSTERCREEL_ODD_VIEW = 4,     /* the reported view names a unit beyond n, or lacks its own unit */
-    LOBSTERCREEL_NOTHING_THERE = 5,/* an empty line; or no recorded proposal of the local view */
+    LOBSTERCREEL_NOTHING_THERE = 5,/* taking from an empty line */
     LOBSTERCREEL_HISTORY_FULL = 6, /* the proposal would pass position 32 */
     LOBSTERCREEL_LINE_FULL = 7,    /* a message of this step finds a line that holds 8 */
     LOBSTERCREEL_BAD_LINE = 8,     /* in a list of steps: a kind that there is not, or a step that breaks off */
-    LOBSTERCREEL_LONG_SHEET = 9    /* what a sheet of more than 60,000 bytes prints */
+    LOBSTERCREEL_LONG_SHEET = 9,   /* what a sheet of more than 60,000 bytes prints */
+    LOBSTERCREEL_NO_RECORD = 10,   /* answering with no recorded proposal */
+    LOBSTERCREEL_OTHER_VIEW = 11   /* answering a recorded proposal whose view is not the local view */
 };
 
 /* Writes the image of the fresh system of n units. 0; or 2 for an n outside 1 to 8, and then the image is that of a system of zero
@@ -93,7 +95,7 @@ size_t lobstercreel_steps(uint8_t *image, size_t length, const uint8_t *list, si
 /* Runs a whole sheet and writes what the bench program prints for it, as far as `out` has room; what lies past it in `out` stays.
  * Answers how many bytes were written. Less than `room` is the whole output; as many as `room` may be cut off. A buffer of
  * LOBSTERCREEL_OUTPUT bytes has room for every sheet. */
-#define LOBSTERCREEL_OUTPUT 483400
+#define LOBSTERCREEL_OUTPUT 603400
 size_t lobstercreel_run(const uint8_t *sheet, size_t length, uint8_t *out, size_t room);
 
 #ifdef __cplusplus

@@ -304,10 +304,10 @@ static void refusals(void) {
     refused(lobstercreel_report(image, length, 1, 8 + 1), LOBSTERCREEL_ODD_VIEW, "a view beyond n");
     refused(lobstercreel_report(image, length, 1, 2), LOBSTERCREEL_ODD_VIEW, "a view without its own");
     refused(lobstercreel_receive(image, length, 1, 2), LOBSTERCREEL_NOTHING_THERE, "an empty line");
-    refused(lobstercreel_respond(image, length, 1, 2), LOBSTERCREEL_NOTHING_THERE, "no record");
+    refused(lobstercreel_respond(image, length, 1, 2), LOBSTERCREEL_NO_RECORD, "no record");
     set(record(image, 1, 2), LOBSTERCREEL_PROPOSED, 3, 2);
     prepare();
-    refused(lobstercreel_respond(image, length, 1, 2), LOBSTERCREEL_NOTHING_THERE, "a record of another view");
+    refused(lobstercreel_respond(image, length, 1, 2), LOBSTERCREEL_OTHER_VIEW, "a record of another view");
     *field(image, 1, LOBSTERCREEL_PROPOUT) = 32;
     *field(image, 1, LOBSTERCREEL_PROPOSAL) = 1;
     put(image, 1, 1, LOBSTERCREEL_RETRY, 32, 33);
@@ -407,19 +407,19 @@ static void lists(void) {
     expect(count == sizeof told && memcmp(numbers, unsound, sizeof told) == 0 && unchanged(), "a list on an image of another length");
 }
 
-/* The longest output: 59,996 empty lines after `u 8`. No line of a sheet prints more bytes than 8, and it has 60,000 at most. */
+/* The longest output: 59,996 empty lines after `u 8`. No line of a sheet prints more bytes than 10, and it has 60,000 at most. */
 static void output_room(void) {
     char *e = (char *)expected;
     memset(sheet, '\n', sizeof sheet);
     memcpy(sheet, "u 8", 3);
-    for (int i = 2; i <= 59997; i++) e += sprintf(e, "%d 8\n", i);
+    for (int i = 2; i <= 59997; i++) e += sprintf(e, "%d 8 1\n", i);
     for (int p = 1; p <= 8; p++) e += sprintf(e, "unit %d live next 2 1=12345678\n", p);
     size_t whole = (size_t)(e - (char *)expected);
     memset(out, MARK, sizeof out);
     size_t written = lobstercreel_run(sheet, sizeof sheet, out, LOBSTERCREEL_OUTPUT);
     expect(written == whole && memcmp(out, expected, whole) == 0, "the longest output: %zu bytes of %zu", written, whole);
     expect(written < LOBSTERCREEL_OUTPUT, "it is shorter than the room, and so it is whole");
-    expect(LOBSTERCREEL_OUTPUT >= 60000 * 8 + 8 * (23 + 32 * 12), "room for every line and for every unit with a full history");
+    expect(LOBSTERCREEL_OUTPUT >= 60000 * 10 + 8 * (23 + 32 * 12), "room for every line and for every unit with a full history");
     for (size_t at = written; at < sizeof out; at++)
         if (out[at] != MARK) expect(0, "byte %zu past the output is written", at);
 }

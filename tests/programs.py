@@ -133,20 +133,26 @@ def in_pieces(data, *lengths):
 UNREAD = b"bench: the sheet cannot be read\n"
 UNWRITTEN = b"bench: the output cannot be written\n"
 
-# Sheet K1 and what is printed for it, as document 01 has them.
-K1 = b"u 2\nr 1 1\nt 1 1\na 1 1\nt 1 1\nt 1 1\nr 2 1\n"
-K1_OUT = b"2 0\n3 0\n4 0\n5 0\n6 0\n7 4\nunit 1 live next 3 1=12 2=1\nunit 2 live next 2 1=12\n"
+def stored(name):
+    """A file of the worked sheets."""
+    with open("crates/sheets/data/" + name, "rb") as file:
+        return file.read()
 
 
-def outcomes(first, last, number):
-    return b"".join(b"%d %d\n" % (line, number) for line in range(first, last + 1))
+# Sheet K1 and what is printed for it.
+K1, K1_OUT = stored("K1.sheet"), stored("K1.out")
+
+
+def bad(first, last, column):
+    """What is printed for bad lines of one column."""
+    return b"".join(b"%d 8 %d\n" % (line, column) for line in range(first, last + 1))
 
 
 def empty_lines(length):
-    """A sheet of so many bytes, its lines after the first all empty, and its output: document 01 gives 8 for an empty line."""
+    """A sheet of so many bytes, its lines after the first all empty, and its output: an empty line is bad from column 1 on."""
     sheet = b"u 8\n" + b"\n" * (length - 4)
     units = b"".join(b"unit %d live next 2 1=12345678\n" % p for p in range(1, 9))
-    return sheet, outcomes(2, length - 3, 8) + units
+    return sheet, bad(2, length - 3, 1) + units
 
 
 def bench():
@@ -163,11 +169,11 @@ def bench():
     check("the null device", "bench", b"", stdin=os.open(os.devnull, os.O_RDONLY))
 
     # The line feed among them ends the first of two lines.
-    check("every byte", "bench", outcomes(1, 2, 8), pieces=[bytes(range(256))])
-    check("zeros", "bench", outcomes(1, 1, 8), pieces=[bytes(5_000)])
-    check("bytes that are no text", "bench", outcomes(1, 3, 8), pieces=[b"\xff\xfe\n\x80u 1\n\xc3("])
-    check("the same after a good line", "bench", b"2 8\n3 8\nunit 1 live next 2 1=1\n", pieces=[b"u 1\n\0\n\xff\x80"])
-    check("carriage returns", "bench", outcomes(1, 2, 8), pieces=[b"u 1\r\ns 1\r\n"])
+    check("every byte", "bench", bad(1, 1, 1) + bad(2, 2, 0), pieces=[bytes(range(256))])
+    check("zeros", "bench", bad(1, 1, 1), pieces=[bytes(5_000)])
+    check("bytes that are no text", "bench", bad(1, 1, 1) + bad(2, 3, 0), pieces=[b"\xff\xfe\n\x80u 1\n\xc3("])
+    check("the same after a good line", "bench", bad(2, 3, 1) + b"unit 1 live next 2 1=1\n", pieces=[b"u 1\n\0\n\xff\x80"])
+    check("carriage returns", "bench", bad(1, 1, 4) + bad(2, 2, 0), pieces=[b"u 1\r\ns 1\r\n"])
 
     check("60,000 bytes at once", "bench", limit_out, pieces=[limit])
     check("60,000 bytes in pieces", "bench", limit_out, pieces=in_pieces(limit, 1, 2, 4_096, 30_000, 25_900), pause=0.1)

@@ -5,7 +5,7 @@
 pub const IMAGE: usize = 2_097;
 
 /// No sheet prints more bytes than this.
-pub const OUTPUT: usize = 483_400;
+pub const OUTPUT: usize = 603_400;
 
 // A Rust slice goes as its pointer and its length.
 extern "C" {
@@ -25,7 +25,7 @@ extern "C" {
     fn lobstercreel_run(sheet: *const u8, length: usize, out: *mut u8, room: usize) -> usize;
 }
 
-/// A number of the refusal table: 1 to 7.
+/// A number of the refusal table: 1 to 7, 10 and 11.
 #[derive(Clone, Copy, Debug, PartialEq, Eq)]
 pub struct Refusal(pub u8);
 

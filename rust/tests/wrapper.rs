@@ -120,7 +120,7 @@ fn arguments() {
     assert_eq!(system.perform(Step::Receive { q: 3, p: 2 }), Err(Refusal(5)));
     assert_eq!(system.perform(Step::Receive { q: 2, p: 3 }), Ok(()));
     assert_eq!(system.perform(Step::Report { p: 3, view }), Ok(()));
-    assert_eq!(system.perform(Step::Respond { p: 2, q: 3 }), Err(Refusal(5)));
+    assert_eq!(system.perform(Step::Respond { p: 2, q: 3 }), Err(Refusal(10)));
     assert_eq!(system.perform(Step::Respond { p: 3, q: 2 }), Ok(()));
     assert_eq!(system.perform(Step::Crash { p: 2 }), Ok(()));
     assert_eq!(system.perform(Step::Report { p: 2, view }), Err(Refusal(3)));
@@ -144,6 +144,9 @@ fn refusals() {
     stopped[1] = 1;
     let mut unsound = image(2);
     unsound[1 + 2] = 34;
+    let mut other = image(2);
+    other[1 + 1] = 1;
+    other[1 + 6 + 3..][..3].copy_from_slice(&[1, 3, 2]);
     let report = Step::Report { p: 1, view: 3 };
     let cases = [
         (unsound, report, 1),
@@ -153,6 +156,8 @@ fn refusals() {
         (image(2), Step::Receive { q: 1, p: 2 }, 5),
         (last, report, 6),
         (full, report, 7),
+        (image(2), Step::Respond { p: 1, q: 2 }, 10),
+        (other, Step::Respond { p: 1, q: 2 }, 11),
     ];
     for (bytes, refused, number) in cases {
         let mut system = System::from_image(bytes);
@@ -201,7 +206,7 @@ fn lists() {
 fn outputs() {
     let mut sheet = vec![b'\n'; 60_000];
     sheet[..3].copy_from_slice(b"u 8");
-    let mut wanted: String = (2..=59_997).map(|line| format!("{line} 8\n")).collect();
+    let mut wanted: String = (2..=59_997).map(|line| format!("{line} 8 1\n")).collect();
     (1..=8).for_each(|p| wanted += &format!("unit {p} live next 2 1=12345678\n"));
     assert!(run_sheet(&sheet) == wanted.as_bytes());
     assert!(wanted.len() < OUTPUT);

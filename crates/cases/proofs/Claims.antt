@@ -2,7 +2,7 @@
 use Prim.Native.Nat.{ℕ}
 use mathlib.Core.Path.{_≡_, refl}
 use mathlib.Core.Bool.{true, false}
-use mathlib.Core.List.{map}
+use mathlib.Core.List.{map, flatMap}
 use Rattle.view.specs.Logic.{pick, allUpTo, eachUpTo, at, put, isOneOf}
 use Rattle.view.specs.View.{has, within, with, everyone, firstFrom, leastOf}
 use Rattle.channel.specs.Channel.{emptyChannel, waiting, pushed, popped}
@@ -19,14 +19,15 @@ use Rattle.agreement.specs.Accepted.{acceptedFrom, acceptedBy, acceptedIn, acce
 use Rattle.agreement.specs.Book.{bookEntry, openedBook, apart, apartFrom, admits, writtenIn, madeIn, fed, fedAll, noneRefused}
 use Rattle.agreement.specs.Demand.{start}
 use Rattle.print.specs.Text.{bytes, textUpTo, digits, decimal, memberText, viewText}
-use Rattle.print.specs.Print.{numberedLine, entryText, entryTextAt, historyText, unitLine, unitOf, unitLines}
+use Rattle.print.specs.Print.{numberedLine, columnLine, entryText, entryTextAt, historyText, unitLine, unitOf, unitLines}
 use Rattle.sheet.specs.Lines.{inFirst, withByte, linesOf}
-use Rattle.sheet.specs.Parse.{stands, begins, fits, digitAt, rising, viewIn, reported, parsed}
-use Rattle.run.specs.Output.{lineOutcome, printedThen, printedFrom, badFrom, sizeIn, startedBy, linesOutput, output}
+use Rattle.sheet.specs.Grammar.{piece, passed, ended, followed, readings, some, begins, greatest, column, firstOf, read}
+use Rattle.sheet.specs.Parse.{opened, parsed}
+use Rattle.run.specs.Output.{answered, lineDone, printedThen, printedFrom, badFrom, startedBy, linesOutput, output}
 use Rattle.cases.specs.Systems.{withValues, withStop, withRecord, withWritten, loaded, withMessages, lone}
-use Rattle.cases.specs.Worked.{textOf, stepIn, stepsIn, stepsOf, printedBy, startOf, ranOn, queueIn, resultOf, expectedResult}
+use Rattle.cases.specs.Worked.{textOf, stepIn, stepsIn, stepsOf, printedBy, openedWith, startOf, ranOn, queueIn, resultOf, expectedResult}
 use Rattle.cases.specs.Sheets.{k-sheets, k1, k1-ends, k2, k3, k4, k4-full, k5-stays, k5, k6, k7, k8, k8-nine, k9, form-sheets, no-last-lf, later-u, empty-lines, first-u9, one-lf, empty}
-use Rattle.cases.specs.Points.{points, outcomeOf, expectedOutcome}
+use Rattle.cases.specs.Points.{points, lineOutcome, outcomeOf, expectedOutcome}
 use Rattle.cases.specs.Rule.{k2-accepted, k2-agreements, k2-book, at-two, at-three, twice-accepted, shared, trials, admittedBy, expectedAnswer}
 
 -- what the claims are computed with: a claim that unfolds this one unfolds all that its line names
@@ -42,13 +43,13 @@ unfolding pick allUpTo eachUpTo at put has within with everyone firstFrom leastO
     acceptedFrom acceptedBy acceptedIn accepted
     bookEntry openedBook apart apartFrom admits writtenIn madeIn fed fedAll noneRefused
     bytes textUpTo digits decimal memberText viewText
-    numberedLine entryText entryTextAt historyText unitLine unitOf unitLines
-    inFirst withByte linesOf stands begins fits digitAt rising viewIn reported parsed
-    lineOutcome printedThen printedFrom badFrom sizeIn startedBy linesOutput output
+    numberedLine columnLine entryText entryTextAt historyText unitLine unitOf unitLines
+    inFirst withByte linesOf flatMap piece passed ended followed readings some begins greatest column firstOf read opened parsed
+    answered lineDone printedThen printedFrom badFrom startedBy linesOutput output
     withValues withStop withRecord withWritten loaded withMessages lone
-    textOf stepIn stepsIn stepsOf printedBy startOf ranOn queueIn resultOf expectedResult
+    textOf stepIn stepsIn stepsOf printedBy openedWith startOf ranOn queueIn resultOf expectedResult
     k1 k1-ends k2 k3 k4 k4-full k5-stays k5 k6 k7 k8 k8-nine k9 no-last-lf later-u empty-lines first-u9 one-lf empty
-    outcomeOf
+    lineOutcome outcomeOf
     k2-accepted k2-agreements k2-book at-two at-three twice-accepted shared trials admittedBy
 definitions = tt
 

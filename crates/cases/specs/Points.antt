@@ -11,8 +11,10 @@ use Rattle.system.specs.Process.{index}
 use Rattle.system.specs.System.{done, refused}
 use Rattle.system.specs.Fresh.{freshSystem}
 use Rattle.print.specs.Text.{bytes}
+use Rattle.step.specs.Step.{stepped}
+use Rattle.sheet.specs.declared.parse.Line.{Line}
+use Rattle.sheet.specs.declared.parse.Line.the-variants.{Bad, Step}
 use Rattle.sheet.specs.Parse.{parsed}
-use Rattle.run.specs.Output.{lineOutcome}
 use Rattle.cases.specs.Systems.{withValues, withStop, withRecord, withWritten, withMessages, lone}
 
 pub record Point : Type 0 where
@@ -22,6 +24,11 @@ pub record Point : Type 0 where
 
 abbrev point : System → String → Outcome → Point
 point s l o = record { before = s; line = l; after = o }
+
+-- what a line does: its step, or nothing
+unfoldable pub lineOutcome : System → Line → Outcome
+lineOutcome s (Bad column) = refused 8 s
+lineOutcome s (Step o) = stepped s o
 
 -- by the definitions
 unfoldable pub outcomeOf : Point → Outcome
@@ -65,9 +72,14 @@ points =
     -- an index below Next is not
     ∷ point (withRecord (withValues one 1 1 6 1 0 0) 1 1 1 5) "a 1 1"
     (done (withMessages (withValues one 1 1 6 1 0 0) 1 1 (Retry (index 5) (index 6) ∷ [])))
-    -- no recorded proposal; one whose view is not the local view, which waits
-    ∷ point two "a 1 2" (refused 5 two)
-    ∷ point (withRecord (withValues two 2 2 2 1 0 0) 2 1 3 2) "a 2 1" (refused 5 (withRecord (withValues two 2 2 2 1 0 0) 2 1 3 2))
+    -- "10 no record, 11 other view": no recorded proposal; one whose view is not the local view, which waits
+    ∷ point two "a 1 2" (refused 10 two)
+    ∷ point (withRecord (withValues two 2 2 2 1 0 0) 2 1 3 2) "a 2 1" (refused 11 (withRecord (withValues two 2 2 2 1 0 0) 2 1 3 2))
+    -- "both in the place of 5 in the order": after 3, and before 7
+    ∷ point (withStop two 1) "a 1 2" (refused 3 (withStop two 1))
+    ∷ point (withMessages two 1 2 (replicate 8 (Acc (index 2)))) "a 1 2" (refused 10 (withMessages two 1 2 (replicate 8 (Acc (index 2)))))
+    ∷ point (withMessages (withRecord (withValues two 2 2 2 1 0 0) 2 1 3 2) 2 1 (replicate 8 (Acc (index 2)))) "a 2 1"
+    (refused 11 (withMessages (withRecord (withValues two 2 2 2 1 0 0) 2 1 3 2) 2 1 (replicate 8 (Acc (index 2)))))
     -- an empty channel
     ∷ point two "t 1 2" (refused 5 two)
     -- a view that names a process beyond n, or lacks its own

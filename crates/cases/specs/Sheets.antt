@@ -172,18 +172,18 @@ no-last-lf = wholeSheet ("u 1\nr 1 1" ∷ []) ("2 0\nunit 1 live next 2 1=1\n" �
 unfoldable pub later-u : WorkedSheet
 later-u =
     wholeSheet ("u 2\ns 2\nu 2\nt 1 2\nu 3\ns 3\nu\nu 9\n" ∷ [])
-    ("2 0\n3 8\n4 3\n5 8\n6 2\n7 8\n8 8\n" ∷ "unit 1 live next 2 1=12\nunit 2 stopped next 2 1=12\n" ∷ [])
+    ("2 0\n3 8 1\n4 3\n5 8 1\n6 2\n7 8 1\n8 8 1\n" ∷ "unit 1 live next 2 1=12\nunit 2 stopped next 2 1=12\n" ∷ [])
 
 -- "Anything else, an empty line too, is refusal 8"; "A refused line does not end the run."
 unfoldable pub empty-lines : WorkedSheet
-empty-lines = wholeSheet ("u 1\n\nr 1 1\n\n\n" ∷ []) ("2 8\n3 0\n4 8\n5 8\nunit 1 live next 2 1=1\n" ∷ [])
+empty-lines = wholeSheet ("u 1\n\nr 1 1\n\n\n" ∷ []) ("2 8 1\n3 0\n4 8 1\n5 8 1\nunit 1 live next 2 1=1\n" ∷ [])
 
 -- "if the first line is, so is every line after it": N is 1 to 8
 unfoldable pub first-u9 : WorkedSheet
-first-u9 = wholeSheet ("u 9\nu 1\nr 1 1\n" ∷ []) ("1 8\n2 8\n3 8\n" ∷ [])
+first-u9 = wholeSheet ("u 9\nu 1\nr 1 1\n" ∷ []) ("1 8 3\n2 8 0\n3 8 0\n" ∷ [])
 
 unfoldable pub one-lf : WorkedSheet
-one-lf = wholeSheet ("\n" ∷ []) ("1 8\n" ∷ [])
+one-lf = wholeSheet ("\n" ∷ []) ("1 8 1\n" ∷ [])
 
 -- "an empty sheet prints nothing"
 unfoldable pub empty : WorkedSheet

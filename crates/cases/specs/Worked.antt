@@ -8,16 +8,18 @@ use Rattle.channel.specs.Channel.{waiting}
 use Rattle.system.specs.declared.System.{System}
 use Rattle.system.specs.declared.Outcome.{Outcome}
 use Rattle.system.specs.System.{channelAt}
-use Rattle.system.specs.Fresh.{freshOf}
+use Rattle.system.specs.Fresh.{freshSystem}
 use Rattle.plan.specs.declared.Step.{Step}
 use Rattle.step.specs.Step.{ran}
 use Rattle.print.specs.Text.{bytes}
+use Rattle.sheet.specs.declared.parse.Opening.{Opening}
+use Rattle.sheet.specs.declared.parse.Opening.the-variants.{Bad as BadFirst, Fresh}
 use Rattle.sheet.specs.declared.parse.Line.{Line}
-use Rattle.sheet.specs.declared.parse.Line.the-variants.{Bad, Fresh}
+use Rattle.sheet.specs.declared.parse.Line.the-variants.{Bad}
 use Rattle.sheet.specs.declared.parse.Line.the-variants.{Step as Asked}
 use Rattle.sheet.specs.Lines.{linesOf}
-use Rattle.sheet.specs.Parse.{parsed}
-use Rattle.run.specs.Output.{printedThen, printedFrom, sizeIn, output}
+use Rattle.sheet.specs.Parse.{opened, parsed}
+use Rattle.run.specs.Output.{answered, printedThen, printedFrom, output}
 
 -- A text is written in parts, so that each can stand beside the words that it follows.
 unfoldable pub textOf : List String → List ℕ
@@ -26,8 +28,7 @@ textOf (s ∷ ss) = bytes s ++ textOf ss
 
 -- the steps that the lines of a text ask for
 unfoldable pub stepIn : Line → List Step
-stepIn Bad = []
-stepIn (Fresh n) = []
+stepIn (Bad column) = []
 stepIn (Asked o) = o ∷ []
 
 unfoldable pub stepsIn : List (List ℕ) → List Step
@@ -64,11 +65,15 @@ pub record Result : Type 0 where
 -- what is printed. The number that a system was given out with is printed as that of line 1
 unfoldable pub printedBy : Start → List ℕ → List ℕ
 printedBy itsOwn t = output t
-printedBy (handed o) t = printedThen 1 o (λ s. printedFrom 2 s (linesOf t))
+printedBy (handed o) t = printedThen (answered 1 o) (λ s. printedFrom 2 s (linesOf t))
 
 -- the system that the lines run on
+unfoldable pub openedWith : Opening → System
+openedWith (BadFirst column) = freshSystem 0
+openedWith (Fresh n) = freshSystem n
+
 unfoldable pub startOf : Start → List (List ℕ) → System
-startOf itsOwn ls = freshOf (sizeIn (parsed (at ls 1 []))) .system
+startOf itsOwn ls = openedWith (opened (at ls 1 []))
 startOf (handed o) ls = o .system
 
 unfoldable pub ranOn : Start → List (List ℕ) → System

@@ -20,10 +20,10 @@ pub fn sheet_buffer() -> [u8; 60001]
 }
 
 // Room for what is printed for any sheet.
-pub fn output_buffer() -> [u8; 483400]
-    ensures { λ r. ⌜ Zeros 483400 r ⌝ }
+pub fn output_buffer() -> [u8; 603400]
+    ensures { λ r. ⌜ Zeros 603400 r ⌝ }
 {
-    [0; 483400]
+    [0; 603400]
 }
 
 fn lesser(a: usize, b: usize) -> usize

@@ -104,12 +104,13 @@ receivePlan q p x (Waiting m) = messagePlan q p x m
 -- Third guarded command, for what is recorded from q:
 --   Prop[q] ∧ (v[q] = v_p) → Prop[q] := false; [ PropIn[q] < Next → SN_q! Retry(PropIn[q], Next)
 --   [] PropIn[q] ≥ Next → Next = PropIn[q] + 1; SN_q! Acc(PropIn[q]) ]
--- Refusal 5: "answering with no recorded proposal, or with one whose view is not the local view".
+-- Refusals 10 and 11, "both in the place of 5 in the order": "An answer with no record gets its own number, and so does one whose
+-- recorded view is not the local view."
 -- A record past index 32 stands in no sound system: the number is 1, so that no index passes 33.
 unfoldable pub respondPlan : ProcessId → Variables → Pending → Plan
-respondPlan q x Nothing = refusing 5 x
+respondPlan q x Nothing = refusing 10 x
 respondPlan q x (Proposal v i) =
-    unless (eqb v (x .view)) (refusing 5 x)
+    unless (eqb v (x .view)) (refusing 11 x)
     (pick (ltb (i .0) (x .next .0))
     (sending (recording x q Nothing) (with 0 (q .0)) (Retry i (x .next)))
     (unless (leb (i .0) 32) (refusing 1 x) (sending (recording (withNext x (i .0 + 1)) q Nothing) (with 0 (q .0)) (Acc i))))

@@ -12,8 +12,10 @@ use channel::Message;
 use system::Pending;
 use system::Variables;
 use system::refusal::HISTORY_FULL;
+use system::refusal::NO_RECORD;
 use system::refusal::NOTHING_THERE;
 use system::refusal::ODD_VIEW;
+use system::refusal::OTHER_VIEW;
 use system::refusal::UNSOUND;
 use view::GroupIndex;
 use view::ProcessId;
@@ -294,7 +296,7 @@ pub fn respond_plan(q: ProcessId, x: Variables, pending: Pending) -> Plan
     ensures { λ r. ⌜ r ≡ respondPlan q x pending ⌝ }
 {
     match pending {
-        Pending::Nothing => refusing(NOTHING_THERE, x),
+        Pending::Nothing => refusing(NO_RECORD, x),
         Pending::Proposal(v, i) => {
             let next = x.next;
             if v == x.view {
@@ -316,7 +318,7 @@ pub fn respond_plan(q: ProcessId, x: Variables, pending: Pending) -> Plan
                     refusing(UNSOUND, x)
                 }
             } else {
-                refusing(NOTHING_THERE, x)
+                refusing(OTHER_VIEW, x)
             }
         }
     }

@@ -15,7 +15,7 @@ use Rattle.system.specs.declared.Process.{Process}
 use Rattle.system.specs.declared.System.{System}
 use Rattle.system.specs.System.{processAt}
 use Rattle.print.specs.Text.{bytes, textUpTo, digits, decimal, memberText, viewText}
-use Rattle.print.specs.Print.{numberedLine, entryText, entryTextAt, historyText, unitLine, unitOf, unitLines}
+use Rattle.print.specs.Print.{numbers, numberedLine, columnLine, entryText, entryTextAt, historyText, unitLine, unitOf, unitLines}
 
 record AtMost (m : ℕ) (l : List ℕ) : Type 0 where
   bytes-are : length l ≤ m
@@ -85,15 +85,25 @@ words =
     }
 
 -- ---- lines with a number
--- the line's number below 100,000, and one digit after it
-pub numbered-length : (line number : ℕ) → line < 100000 → number < 10 → length (numberedLine line number) ≤ 8
-unfolding numberedLine
-numbered-length line number hl hn = both (both (both (few-digits 4 line hl) (words .space)) (few-digits 0 number hn)) (words .feed) .bytes-are
+-- the line's number below 100,000, and at most two digits after it
+numbers-length : (line number : ℕ) → line < 100000 → number < 100 → AtMost 8 (numbers line number)
+numbers-length line number hl hn = both (both (few-digits 4 line hl) (words .space)) (few-digits 1 number hn)
 
--- the same with any byte after it
-pub numbered-byte-length : (line number : ℕ) → line < 100000 → number < 256 → length (numberedLine line number) ≤ 10
+pub numbered-length : (line number : ℕ) → line < 100000 → number < 100 → length (numberedLine line number) ≤ 9
 unfolding numberedLine
-numbered-byte-length line number hl hn = both (both (both (few-digits 4 line hl) (words .space)) (few-digits 2 number (omega arith))) (words .feed) .bytes-are
+numbered-length line number hl hn = both (numbers-length line number hl hn) (words .feed) .bytes-are
+
+-- one digit after it, and a column of at most d + 1 digits
+pub column-length : (d line number column : ℕ) → line < 100000 → number < 10 → column < 10 ^ suc d → length (columnLine line number column) ≤ d + 10
+unfolding columnLine
+column-length d line number column hl hn hc =
+    omega (
+      arith,
+      both
+          (both (both (both (both (few-digits 4 line hl) (words .space)) (few-digits 0 number hn)) (words .space)) (few-digits d column hc))
+          (words .feed)
+          .bytes-are,
+    )
 
 -- ---- views, histories and units
 view-length : (v : ℕ) → AtMost 8 (viewText v)

@@ -10,7 +10,7 @@ use Rattle.system.specs.Process.{noEntries, withEntry, index}
 use Rattle.system.specs.System.{noProcess, withProcess}
 use Rattle.system.specs.Fresh.{freshSystem}
 use Rattle.print.specs.Text.{bytes, decimal}
-use Rattle.print.specs.Print.{numberedLine, unitLines}
+use Rattle.print.specs.Print.{numberedLine, columnLine, unitLines}
 
 -- a process of which only what is printed is of note
 abbrev process : Bool → ℕ → History → Process
@@ -47,6 +47,9 @@ printings =
     ∷ numberedLine 7 4 reads "7 4\n"
     ∷ numberedLine 60000 8 reads "60000 8\n"
     ∷ numberedLine 0 9 reads "0 9\n"
+    ∷ numberedLine 4 11 reads "4 11\n"
+    ∷ columnLine 2 8 0 reads "2 8 0\n"
+    ∷ columnLine 60000 8 13 reads "60000 8 13\n"
     ∷ unitLines k1 reads "unit 1 live next 3 1=12 2=1\nunit 2 live next 2 1=12\n"
     ∷ unitLines stopped reads "unit 1 stopped next 33 1=12345678 10=18 32=23\n"
     ∷ unitLines (freshSystem 0) reads ""

@@ -12,8 +12,15 @@ use Rattle.system.specs.Process.{entryAt}
 use Rattle.system.specs.System.{processAt}
 use Rattle.print.specs.Text.{bytes, textUpTo, decimal, viewText}
 
+abbrev pub numbers : ℕ → ℕ → List ℕ
+numbers line number = decimal line ++ bytes " " ++ decimal number
+
 unfoldable pub numberedLine : ℕ → ℕ → List ℕ
-numberedLine line number = decimal line ++ bytes " " ++ decimal number ++ bytes "\n"
+numberedLine line number = numbers line number ++ bytes "\n"
+
+-- Document 02, of a bad line: "The column stands after the 8 and a space."
+unfoldable pub columnLine : ℕ → ℕ → ℕ → List ℕ
+columnLine line number column = numbers line number ++ bytes " " ++ decimal column ++ bytes "\n"
 
 -- `position=view`, for a view that is not empty
 unfoldable pub entryText : ℕ → ℕ → List ℕ

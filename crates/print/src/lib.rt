@@ -8,7 +8,7 @@ ghost use Rattle.system.specs.System.{processAt};
 ghost use Rattle.image.specs.Image.{systemIn};
 ghost use Rattle.print.specs.Text.{bytes, digit, digits, decimal, memberText, viewText};
 ghost use Rattle.print.specs.Page.{page, typed};
-ghost use Rattle.print.specs.Print.{numberedLine, entryText, historyText, unitLine, unitLines};
+ghost use Rattle.print.specs.Print.{numbers, numberedLine, columnLine, entryText, historyText, unitLine, unitLines};
 use image::entry_at;
 use image::size;
 use image::variables_at;
@@ -184,12 +184,29 @@ pub fn put_units(out: &mut [u8], at: usize, image: &[u8]) -> usize
     next
 }
 
+// A line's number in the sheet and its refusal number, with no line feed after them.
+fn put_numbers(out: &mut [u8], at: usize, line: usize, number: u8) -> usize
+    ensures { λ r. ⌜ page (now (out .exit)) r ≡ typed (page (now (out .entry)) at) (numbers line number) ⌝ }
+{
+    let a = put_decimal(out, at, line);
+    let b = put_text(out, a, b" ");
+    put_decimal(out, b, number as usize)
+}
+
 // A line's number in the sheet and its refusal number.
 pub fn put_numbered(out: &mut [u8], at: usize, line: usize, number: u8) -> usize
     ensures { λ r. ⌜ page (now (out .exit)) r ≡ typed (page (now (out .entry)) at) (numberedLine line number) ⌝ }
 {
-    let a = put_decimal(out, at, line);
+    let a = put_numbers(out, at, line, number);
+    put_text(out, a, b"\n")
+}
+
+// The same with a column after them.
+pub fn put_column(out: &mut [u8], at: usize, line: usize, number: u8, column: usize) -> usize
+    ensures { λ r. ⌜ page (now (out .exit)) r ≡ typed (page (now (out .entry)) at) (columnLine line number column) ⌝ }
+{
+    let a = put_numbers(out, at, line, number);
     let b = put_text(out, a, b" ");
-    let c = put_decimal(out, b, number as usize);
+    let c = put_decimal(out, b, column);
     put_text(out, c, b"\n")
 }

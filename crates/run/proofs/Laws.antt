@@ -1,7 +1,7 @@
 -- One turn of a sheet's run: the line that was found is the next one, and what is printed for it stands before the rest.
 use Prim.Native.Nat.{ℕ, suc, _+_, _-_, _≤_, _<_}
 use mathlib.Core.Path.{_≡_, refl, sym, _∙_, ap}
-use mathlib.Core.Bool.{Bool, true, false}
+use mathlib.Core.Bool.{true}
 use mathlib.Core.List.{List, [], _∷_, _++_}
 use native.Mathlib.Numerals.{add-one}
 use borrow.Author.Tests.{lt-ltb, le-ltb, eq-eqb}
@@ -9,34 +9,36 @@ use lib.Dec.{eqb}
 use lib.ListN.{length, take, drop}
 use Rattle.view.specs.Logic.{pick, isOneOf}
 use Rattle.system.specs.declared.System.{System}
-use Rattle.system.specs.declared.Outcome.{Outcome}
-use Rattle.system.specs.Fresh.{freshSystem, freshOf}
+use Rattle.system.specs.Fresh.{freshSystem}
 use Rattle.image.specs.Image.{imageWidth, systemIn}
 use Rattle.print.specs.Text.{bytes}
 use Rattle.print.specs.Page.{Page, typed}
-use Rattle.print.specs.Print.{numberedLine, unitLines}
+use Rattle.print.specs.Print.{columnLine, unitLines}
 use Rattle.print.proofs.Laws.{in-turn}
+use Rattle.sheet.specs.declared.parse.Opening.{Opening}
+use Rattle.sheet.specs.declared.parse.Opening.the-variants.{Bad as BadFirst, Fresh}
 use Rattle.sheet.specs.declared.parse.Line.{Line}
 use Rattle.sheet.specs.Lines.{linesOf}
-use Rattle.sheet.specs.Parse.{parsed}
+use Rattle.sheet.specs.Parse.{opened, parsed}
 use Rattle.sheet.proofs.Laws.{Cut}
-use Rattle.run.specs.Output.{lineOutcome, printedThen, printedFrom, badFrom, sizeIn, startedBy, linesOutput, output}
+use Rattle.sheet.proofs.GoodLines.{fresh-size}
+use Rattle.run.specs.Output.{lineDone, printedThen, printedFrom, badFrom, startedBy, linesOutput, output}
 
 -- total is the page in the end, p the page before the line and q the page after it
 then : (total p q : Page) (a b : List ℕ) → total ≡ typed p (a ++ b) → q ≡ typed p a → total ≡ typed q b
 then total p q a b whole here = whole ∙ sym (in-turn p q (typed q b) a b here refl)
 
-pub printed-again : (total p q : Page) (sheet : List ℕ) (at start end next line : ℕ) (s : System) (o : Outcome) (x : Line) → Cut sheet at start end next
+pub printed-again : (total p q : Page) (sheet : List ℕ) (at start end next line : ℕ) (s t : System) (x : Line) → Cut sheet at start end next
     → x ≡ parsed (take (end - start) (drop start sheet))
-    → o ≡ lineOutcome s x
+    → t ≡ lineDone line s x .system
     → total ≡ typed p (printedFrom line s (linesOf (drop at sheet)))
-    → q ≡ typed p (numberedLine line (o .refusal))
-    → total ≡ typed q (printedFrom (line + 1) (o .system) (linesOf (drop next sheet)))
+    → q ≡ typed p (lineDone line s x .text)
+    → total ≡ typed q (printedFrom (line + 1) t (linesOf (drop next sheet)))
 unfolding printedFrom printedThen
-printed-again total p q sheet at start end next line s o x cut said answer whole here =
-    rw add-one
-    (then total p q (numberedLine line (o .refusal)) (printedFrom (suc line) (o .system) (linesOf (drop next sheet)))
-    (whole ∙ ap (typed p) (ap (printedFrom line s) (cut .lines) ∙ ap (λ (y : Outcome). numberedLine line (y .refusal) ++ printedFrom (suc line) (y .system) (linesOf (drop next sheet))) (sym (answer ∙ ap (lineOutcome s) said))))
+printed-again total p q sheet at start end next line s t x cut said after whole here =
+    rw (add-one, after)
+    (then total p q (lineDone line s x .text) (printedFrom (suc line) (lineDone line s x .system) (linesOf (drop next sheet)))
+    (whole ∙ ap (typed p) (ap (printedFrom line s) (cut .lines) ∙ ap (λ (y : Line). printedThen (lineDone line s y) (λ u. printedFrom (suc line) u (linesOf (drop next sheet)))) (sym said)))
     here)
 
 pub printed-end : (total p q : Page) (sheet : List ℕ) (at line : ℕ) (s : System) → linesOf (drop at sheet) ≡ []
@@ -46,13 +48,18 @@ pub printed-end : (total p q : Page) (sheet : List ℕ) (at line : ℕ) (s : Sys
 unfolding printedFrom
 printed-end total p q sheet at line s none whole here = here ∙ sym (whole ∙ ap (λ (ls : List (List ℕ)). typed p (printedFrom line s ls)) none)
 
+-- after a bad first line: its own column, and then 0
+pub bad-begins : (p q : Page) (column : ℕ) (ls : List (List ℕ)) → q ≡ typed p (columnLine 1 8 column) → typed p (startedBy (BadFirst column) ls) ≡ typed q (badFrom 2 ls)
+unfolding startedBy
+bad-begins p q column ls here = then _ p q (columnLine 1 8 column) (badFrom 2 ls) refl here
+
 pub bad-again : (total p q : Page) (sheet : List ℕ) (at start end next line : ℕ) → Cut sheet at start end next
     → total ≡ typed p (badFrom line (linesOf (drop at sheet)))
-    → q ≡ typed p (numberedLine line 8)
+    → q ≡ typed p (columnLine line 8 0)
     → total ≡ typed q (badFrom (line + 1) (linesOf (drop next sheet)))
 unfolding badFrom
 bad-again total p q sheet at start end next line cut whole here =
-    rw add-one (then total p q (numberedLine line 8) (badFrom (suc line) (linesOf (drop next sheet))) (whole ∙ ap (λ (ls : List (List ℕ)). typed p (badFrom line ls)) (cut .lines)) here)
+    rw add-one (then total p q (columnLine line 8 0) (badFrom (suc line) (linesOf (drop next sheet))) (whole ∙ ap (λ (ls : List (List ℕ)). typed p (badFrom line ls)) (cut .lines)) here)
 
 pub bad-end : (total p : Page) (sheet : List ℕ) (at line : ℕ) → linesOf (drop at sheet) ≡ [] → total ≡ typed p (badFrom line (linesOf (drop at sheet))) → p ≡ total
 unfolding badFrom typed
@@ -74,21 +81,13 @@ pub output-none : (sheet : List ℕ) → length sheet ≤ 60000 → linesOf (dro
 unfolding output pick linesOutput
 output-none sheet h none = rw (le-ltb 60000 (length sheet) h, none)
 
--- the first line is x, and asks for n processes
-module _ (sheet : List ℕ) (start end next n : ℕ) (x : Line) (good : Bool) (h : length sheet ≤ 60000) (cut : Cut sheet 0 start end next)
-    (said : x ≡ parsed (take (end - start) (drop start sheet))) (size : n ≡ sizeIn x) (test : good ≡ isOneOf 8 n) where
-  begun : output sheet ≡ startedBy (freshOf n) (linesOf (drop next sheet)) (linesOf sheet)
-  unfolding output pick linesOutput
-  begun = rw (le-ltb 60000 (length sheet) h, size, said) (by (linesOf sheet) (cut .lines))
-    where
-      by : (ls : List (List ℕ)) → ls ≡ take (end - start) (drop start sheet) ∷ linesOf (drop next sheet)
-          → linesOutput ls ≡ startedBy (freshOf (sizeIn (parsed (take (end - start) (drop start sheet))))) (linesOf (drop next sheet)) ls
-      by ls e = rw e
+-- the first line says x
+pub output-begins : (sheet : List ℕ) (start end next : ℕ) (x : Opening) → length sheet ≤ 60000 → Cut sheet 0 start end next
+    → x ≡ opened (take (end - start) (drop start sheet))
+    → output sheet ≡ startedBy x (linesOf (drop next sheet))
+unfolding output pick linesOutput
+output-begins sheet start end next x h cut said = rw (le-ltb 60000 (length sheet) h, said) (ap linesOutput (cut .lines))
 
-  pub output-started : good ≡ true → output sheet ≡ printedFrom 2 (freshSystem n) (linesOf (drop next sheet))
-  unfolding startedBy freshOf pick
-  output-started e = begun ∙ rw (← test, e)
-
-  pub output-bad : good ≡ false → output sheet ≡ badFrom 1 (linesOf (drop 0 sheet))
-  unfolding startedBy freshOf pick
-  output-bad e = begun ∙ rw (← test, e)
+-- the size that a good first line asks for
+pub started-size : (x : Opening) (l : List ℕ) (n : ℕ) → x ≡ opened l → x ≡ Fresh n → isOneOf 8 n ≡ true
+started-size x l n said is = fresh-size l n (sym said ∙ is)

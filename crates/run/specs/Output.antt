@@ -2,57 +2,61 @@
 -- so is every line after it. A refused line does not end the run." "For each line after a good first line the program prints its
 -- line number in the sheet, a space and the refusal number or 0. A bad first line and every line after it are printed the same
 -- way. Then for each unit, rising [its line]. With no table there are no unit lines; an empty sheet prints nothing. A long sheet
--- prints the single line `0 9`."
+-- prints the single line `0 9`." Document 02: "For a bad sheet line the program adds the column".
 use Prim.Native.Nat.{ℕ, suc}
 use mathlib.Core.List.{List, [], _∷_, _++_}
-use lib.Dec.{eqb, ltb}
+use lib.Dec.{ltb}
 use lib.ListN.{length}
 use Rattle.view.specs.Logic.{pick}
 use Rattle.system.specs.declared.System.{System}
 use Rattle.system.specs.declared.Outcome.{Outcome}
-use Rattle.system.specs.System.{refused}
-use Rattle.system.specs.Fresh.{freshOf}
+use Rattle.system.specs.Fresh.{freshSystem}
 use Rattle.step.specs.Step.{stepped}
 use Rattle.print.specs.Text.{bytes}
-use Rattle.print.specs.Print.{numberedLine, unitLines}
+use Rattle.print.specs.Print.{numberedLine, columnLine, unitLines}
+use Rattle.sheet.specs.declared.parse.Opening.{Opening}
+use Rattle.sheet.specs.declared.parse.Opening.the-variants.{Bad as BadFirst, Fresh}
 use Rattle.sheet.specs.declared.parse.Line.{Line}
-use Rattle.sheet.specs.declared.parse.Line.the-variants.{Bad, Fresh, Step}
+use Rattle.sheet.specs.declared.parse.Line.the-variants.{Bad, Step}
 use Rattle.sheet.specs.Lines.{linesOf}
-use Rattle.sheet.specs.Parse.{parsed}
+use Rattle.sheet.specs.Parse.{opened, parsed}
 
--- what a line after the first does: its step; or it is refused, with 8
-unfoldable pub lineOutcome : System → Line → Outcome
-lineOutcome s Bad = refused 8 s
-lineOutcome s (Fresh n) = refused 8 s
-lineOutcome s (Step o) = stepped s o
+-- what is printed for a line, and the system after it
+pub record Printed : Type 0 where
+  pub text : List ℕ
+  pub system : System
 
--- the number of line k, and what is printed after it
-unfoldable pub printedThen : ℕ → Outcome → (System → List ℕ) → List ℕ
-printedThen k o rest = numberedLine k (o .refusal) ++ rest (o .system)
+-- a step: its number
+unfoldable pub answered : ℕ → Outcome → Printed
+answered k o = record { text = numberedLine k (o .refusal); system = o .system }
+
+-- line k after a good first line: its step, or 8 and the column
+unfoldable pub lineDone : ℕ → System → Line → Printed
+lineDone k s (Bad column) = record { text = columnLine k 8 column; system = s }
+lineDone k s (Step o) = answered k (stepped s o)
+
+-- a line, and what is printed after it
+unfoldable pub printedThen : Printed → (System → List ℕ) → List ℕ
+printedThen x rest = x .text ++ rest (x .system)
 
 -- the lines from number k on, of a sheet that runs on system s
 unfoldable pub printedFrom : ℕ → System → List (List ℕ) → List ℕ
 printedFrom k s [] = unitLines s
-printedFrom k s (l ∷ ls) = printedThen k (lineOutcome s (parsed l)) (λ t. printedFrom (suc k) t ls)
+printedFrom k s (l ∷ ls) = printedThen (lineDone k s (parsed l)) (λ t. printedFrom (suc k) t ls)
 
--- the lines from number k on, after a bad first line
+-- the lines from number k on, after a bad first line: "Each line after a bad first line has column 0."
 unfoldable pub badFrom : ℕ → List (List ℕ) → List ℕ
 badFrom k [] = []
-badFrom k (l ∷ ls) = numberedLine k 8 ++ badFrom (suc k) ls
+badFrom k (l ∷ ls) = columnLine k 8 0 ++ badFrom (suc k) ls
 
--- the size that a first line asks for; 0 where it is no good first line
-unfoldable pub sizeIn : Line → ℕ
-sizeIn (Fresh n) = n
-sizeIn Bad = 0
-sizeIn (Step o) = 0
-
--- a good first line starts a fresh system; after any other all lines are bad
-unfoldable pub startedBy : Outcome → List (List ℕ) → List (List ℕ) → List ℕ
-startedBy o ls all = pick (eqb (o .refusal) 0) (printedFrom 2 (o .system) ls) (badFrom 1 all)
+-- a good first line starts a fresh system; a bad one has its own column
+unfoldable pub startedBy : Opening → List (List ℕ) → List ℕ
+startedBy (Fresh n) ls = printedFrom 2 (freshSystem n) ls
+startedBy (BadFirst column) ls = columnLine 1 8 column ++ badFrom 2 ls
 
 unfoldable pub linesOutput : List (List ℕ) → List ℕ
 linesOutput [] = []
-linesOutput (l ∷ ls) = startedBy (freshOf (sizeIn (parsed l))) ls (l ∷ ls)
+linesOutput (l ∷ ls) = startedBy (opened l) ls
 
 -- refusal 9: "a sheet of more than 60,000 bytes"
 unfoldable pub output : List ℕ → List ℕ

@@ -8,37 +8,39 @@ ghost use Rattle.view.specs.Logic.{isOneOf};
 ghost use Rattle.system.specs.Fresh.{freshSystem};
 ghost use Rattle.sound.specs.Sound.{soundSystem};
 ghost use Rattle.image.specs.Image.{imageWidth, systemIn};
-ghost use Rattle.engine.specs.Engine.{Gives};
 ghost use Rattle.print.specs.Page.{page, typed};
 ghost use Rattle.sheet.specs.Lines.{linesOf};
-ghost use Rattle.run.specs.Output.{lineOutcome, printedFrom, badFrom, sizeIn, output};
+ghost use Rattle.sheet.specs.declared.parse.Opening.the-variants.{Bad as BadFirst};
+ghost use Rattle.run.specs.Output.{lineDone, printedFrom, startedBy, output};
 use engine::attempt;
 use fresh::put_fresh;
+use print::put_column;
 use print::put_numbered;
 use print::put_text;
 use print::put_units;
 use sheet::lines::Found;
 use sheet::parse::Line;
+use sheet::parse::Opening;
 use sheet::parse::parse;
+use sheet::parse::parse_first;
 use sheet::reader::read_line;
 use system::refusal::BAD_LINE;
-use view::and;
 
 // A sheet of more bytes is a long one.
 pub const SHEET_LIMIT: usize = 60_000;
 
-// Room enough for what is printed for any sheet.
-pub const OUTPUT_LIMIT: usize = 483_400;
-
-// A line after the first, on an image whose system is sound: its step is done, or it is refused.
-fn run_line(image: &mut [u8], line: Line) -> u8
+// A line after the first, on an image whose system is sound: its step is done, or it is refused; and
+// what is printed for it.
+fn run_line(image: &mut [u8], out: &mut [u8], at: usize, number: usize, line: Line) -> usize
     requires { ⌜ soundSystem (systemIn (now image)) ≡ true ⌝ }
-    ensures { λ r. ⌜ (Gives (lineOutcome (systemIn (now (image .entry))) line) (now (image .entry)) r (now (image .exit))) × (soundSystem (systemIn (now (image .exit))) ≡ true) ⌝ }
+    ensures { λ r. ⌜ (page (now (out .exit)) r ≡ typed (page (now (out .entry)) at) (lineDone number (systemIn (now (image .entry))) line .text)) × (systemIn (now (image .exit)) ≡ lineDone number (systemIn (now (image .entry))) line .system) × (soundSystem (systemIn (now (image .exit))) ≡ true) ⌝ }
 {
     match line {
-        Line::Bad => BAD_LINE,
-        Line::Fresh(n) => BAD_LINE,
-        Line::Step(o) => attempt(image, o),
+        Line::Bad(column) => put_column(out, at, number, BAD_LINE, column),
+        Line::Step(o) => {
+            let refusal = attempt(image, o);
+            put_numbered(out, at, number, refusal)
+        }
     }
 }
 
@@ -60,8 +62,7 @@ fn run_lines(sheet: &[u8], from: usize, image: &mut [u8], out: &mut [u8]) -> usi
                 end: stop,
                 next,
             } => {
-                let number = run_line(image, parse(&sheet[start..stop]));
-                end = put_numbered(out, end, line, number);
+                end = run_line(image, out, end, line, parse(&sheet[start..stop]));
                 line += 1;
                 at = next;
             }
@@ -69,14 +70,14 @@ fn run_lines(sheet: &[u8], from: usize, image: &mut [u8], out: &mut [u8]) -> usi
     }
 }
 
-// The lines from a place on, after a bad first line.
-fn all_bad(sheet: &[u8], from: usize, out: &mut [u8]) -> usize
+// The lines from a place on, after a first line that is bad from a column on.
+fn all_bad(sheet: &[u8], from: usize, column: usize, out: &mut [u8]) -> usize
     requires { ⌜ length (now sheet) ≤ 60000 ⌝ }
-    ensures { λ r. ⌜ page (now (out .exit)) r ≡ typed (page (now (out .entry)) 0) (badFrom 1 (linesOf (drop from (now (sheet .entry))))) ⌝ }
+    ensures { λ r. ⌜ page (now (out .exit)) r ≡ typed (page (now (out .entry)) 0) (startedBy (BadFirst column) (linesOf (drop from (now (sheet .entry))))) ⌝ }
 {
     let mut at = from;
-    let mut line: usize = 1;
-    let mut end = 0;
+    let mut line: usize = 2;
+    let mut end = put_column(out, 0, 1, BAD_LINE, column);
     loop {
         match read_line(sheet, at) {
             Found::End => {
@@ -87,22 +88,11 @@ fn all_bad(sheet: &[u8], from: usize, out: &mut [u8]) -> usize
                 end: stop,
                 next,
             } => {
-                end = put_numbered(out, end, line, BAD_LINE);
+                end = put_column(out, end, line, BAD_LINE, 0);
                 line += 1;
                 at = next;
             }
         }
-    }
-}
-
-// The size that a first line asks for; 0 where it is no good first line.
-fn size_in(line: Line) -> u8
-    ensures { λ r. ⌜ r ≡ sizeIn line ⌝ }
-{
-    match line {
-        Line::Fresh(n) => n,
-        Line::Bad => 0,
-        Line::Step(o) => 0,
     }
 }
 
@@ -133,11 +123,9 @@ pub fn run_sheet(sheet: &[u8], out: &mut [u8]) -> usize
     match read_line(sheet, 0) {
         Found::End => 0,
         Found::Span { start, end, next } => {
-            let n = size_in(parse(&sheet[start..end]));
-            if and(1 <= n, n <= 8) {
-                run_fresh(sheet, next, n, out)
-            } else {
-                all_bad(sheet, 0, out)
+            match parse_first(&sheet[start..end]) {
+                Opening::Fresh(n) => run_fresh(sheet, next, n, out),
+                Opening::Bad(column) => all_bad(sheet, next, column, out),
             }
         }
     }
@@ -145,8 +133,8 @@ pub fn run_sheet(sheet: &[u8], out: &mut [u8]) -> usize
 
 // A whole sheet, printed into a buffer that has room for it: what is printed is the buffer's first
 // bytes, as many as the answer says, and the others stay.
-pub fn print_sheet(sheet: &[u8], out: &mut [u8; 483400]) -> usize
-    ensures { λ r. ⌜ (r ≡ length (output (now (sheet .entry)))) × (now (out .exit) ≡ output (now (sheet .entry)) ++ drop r (now (out .entry))) × (r ≤ 483400) ⌝ }
+pub fn print_sheet(sheet: &[u8], out: &mut [u8; 603400]) -> usize
+    ensures { λ r. ⌜ (r ≡ length (output (now (sheet .entry)))) × (now (out .exit) ≡ output (now (sheet .entry)) ++ drop r (now (out .entry))) × (r ≤ 603400) ⌝ }
 {
     run_sheet(sheet, out)
 }

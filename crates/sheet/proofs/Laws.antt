@@ -1,21 +1,18 @@
--- Laws of a sheet's lines, and of forms and views as the parser goes through them.
-use Prim.Native.Nat.{ℕ, suc, _+_, _-_, _≤_, _<_}
+-- Laws of a sheet's lines.
+use Prim.Native.Nat.{ℕ, suc, max, _+_, _-_, _≤_, _<_}
 use mathlib.Core.Path.{_≡_, refl, sym, _∙_, ap}
-use mathlib.Core.Bool.{Bool, true, false, _&&_}
+use mathlib.Core.Bool.{Bool, true, false}
 use mathlib.Core.List.{List, [], _∷_}
 use native.Mathlib.Omega.{arith}
 use native.Mathlib.Nat.{add-assoc, add-sub-cancel-left}
 use native.Mathlib.Numerals.{add-one}
 use borrow.Author.Tests.{eq-eqb, ne-eqb, lt-ltb, le-ltb, ltb-true, ltb-false}
-use lib.Dec.{ltb, leb}
+use lib.Dec.{ltb}
 use lib.ListN.{length, getD, take, drop, length-drop, drop-of-length-le}
 use lib.Seq.{drop-cons, drop-drop, take-all}
 use Rattle.view.specs.Logic.{pick}
-use Rattle.view.specs.View.{with}
-use Rattle.view.proofs.Laws.{and-left, and-right}
 use Rattle.sheet.specs.declared.lines.Found.the-variants.{End, Span}
 use Rattle.sheet.specs.Lines.{isFeed, inFirst, withByte, linesOf, lineLength, nextPlace, lineBetween, lineAt}
-use Rattle.sheet.specs.Parse.{stands, begins, rising, noView}
 
 -- ---- how long a line is
 no-longer : (l : List ℕ) → lineLength l ≤ length l
@@ -103,59 +100,27 @@ end-found s at e = by (ltb at (length s)) refl
     by true h = let here = line-here s at (ltb-true at (length s) h) in absurd (let z : _≡_ {A = ℕ} 0 1 = cc in omega arith)
     by false h = rw (drop-of-length-le s (ltb-false at (length s) h))
 
--- a sheet has no more lines than bytes
-pub few-lines : (s : List ℕ) → length (linesOf s) ≤ length s
-unfolding linesOf withByte inFirst pick
-few-lines [] = omega arith
-few-lines (b ∷ bs) = by (isFeed b) (linesOf bs) (few-lines bs)
+-- the lines' bytes, an empty line counted as one: it has its line feed
+unfoldable pub weight : List (List ℕ) → ℕ
+weight [] = 0
+weight (l ∷ ls) = max 1 (length l) + weight ls
+
+-- a sheet has at least as many bytes
+pub few-bytes : (s : List ℕ) → weight (linesOf s) ≤ length s
+unfolding linesOf withByte inFirst pick weight
+few-bytes [] = omega arith
+few-bytes (b ∷ bs) = by (isFeed b) (linesOf bs) (few-bytes bs)
   where
-    by : (t : Bool) (ls : List (List ℕ)) → length ls ≤ length bs → length (pick t ([] ∷ ls) (inFirst b ls)) ≤ suc (length bs)
+    by : (t : Bool) (ls : List (List ℕ)) → weight ls ≤ length bs → weight (pick t ([] ∷ ls) (inFirst b ls)) ≤ suc (length bs)
     by true ls h = omega arith
     by false [] h = omega arith
-    by false (l ∷ ls) h = omega arith
+    by false (l ∷ ls) h = omega (arith, most (length l))
+      where
+        most : (n : ℕ) → max 1 (suc n) ≤ suc (max 1 n)
+        most n = omega arith
 
--- ---- a form, from byte i on
-pub form-ends : (f l : List ℕ) (i : ℕ) → length f ≤ i → begins (drop i f) l ≡ true
-unfolding begins
-form-ends f l i h = rw (drop-of-length-le f h)
-
-pub line-too-short : (f l : List ℕ) (i : ℕ) → i < length f → length l ≤ i → begins (drop i f) (drop i l) ≡ false
-unfolding begins
-line-too-short f l i h s = rw (drop-of-length-le l s, drop-cons f i 0 h)
-
-module _ (f l : List ℕ) (i : ℕ) (x : Bool) (is : x ≡ stands (getD f i 0) (getD l i 0)) (hf : i < length f) (hl : i < length l) where
-  pub form-goes-on : x ≡ true → begins (drop i f) (drop i l) ≡ begins (drop (i + 1) f) (drop (i + 1) l)
-  unfolding begins
-  form-goes-on e = rw (add-one, drop-cons f i 0 hf, drop-cons l i 0 hl, ← is, e)
-
-  pub form-fails : x ≡ false → begins (drop i f) (drop i l) ≡ false
-  unfolding begins
-  form-fails e = rw (drop-cons f i 0 hf, drop-cons l i 0 hl, ← is, e)
-
--- a line that begins with a form is at least as long
-pub long-enough : (f l : List ℕ) → begins f l ≡ true → length f ≤ length l
-unfolding begins
-long-enough [] l e = omega arith
-long-enough (f ∷ fs) [] e = absurd (let z : _≡_ {A = ℕ} 0 1 = cc in omega arith)
-long-enough (f ∷ fs) (b ∷ bs) e = omega (arith, long-enough fs bs (and-right (stands f b) (begins fs bs) e))
-
--- the part from byte n on
-pub rest-of : (n : ℕ) (l : List ℕ) → take (length l - n) (drop n l) ≡ drop n l
-rest-of n l = take-all (length l - n) (drop n l) (omega (arith, length-drop n l))
-
--- ---- the digits of a view, from byte i on
-pub digits-end : (last v : ℕ) (l : List ℕ) (i : ℕ) → length l ≤ i → rising last v (drop i l) ≡ v
-unfolding rising
-digits-end last v l i h = rw (drop-of-length-le l h)
-
-pub still-digit : (last b top : ℕ) (x : Bool) → x ≡ (ltb last b && leb b top) → x ≡ true → 48 ≤ last → 48 ≤ b
-still-digit last b top x is e low = omega (arith, ltb-true last b (and-left (ltb last b) (leb b top) (sym is ∙ e)))
-
-module _ (last v : ℕ) (l : List ℕ) (i : ℕ) (x : Bool) (is : x ≡ (ltb last (getD l i 0) && leb (getD l i 0) 56)) (h : i < length l) where
-  pub digits-go-on : (w : ℕ) → x ≡ true → w ≡ with v (getD l i 0 - 48) → rising last v (drop i l) ≡ rising (getD l i 0) w (drop (i + 1) l)
-  unfolding rising pick
-  digits-go-on w e added = rw (add-one, drop-cons l i 0 h, ← is, e, added)
-
-  pub digits-fail : x ≡ false → rising last v (drop i l) ≡ noView
-  unfolding rising pick
-  digits-fail e = rw (drop-cons l i 0 h, ← is, e)
+-- and so no more lines than bytes
+pub few-lines : (ls : List (List ℕ)) → length ls ≤ weight ls
+unfolding weight
+few-lines [] = omega arith
+few-lines (l ∷ ls) = omega (arith, few-lines ls)

@@ -4,10 +4,12 @@ use Prim.Native.String.{String}
 use mathlib.Core.List.{List, [], _∷_, _++_, map}
 use Rattle.print.specs.Text.{bytes}
 use Rattle.plan.specs.declared.Step.the-variants.{Report, Receive, Respond, Crash}
+use Rattle.sheet.specs.declared.parse.Opening.{Opening}
+use Rattle.sheet.specs.declared.parse.Opening.the-variants.{Bad as BadFirst, Fresh}
 use Rattle.sheet.specs.declared.parse.Line.{Line}
-use Rattle.sheet.specs.declared.parse.Line.the-variants.{Bad, Fresh, Step}
+use Rattle.sheet.specs.declared.parse.Line.the-variants.{Bad, Step}
 use Rattle.sheet.specs.Lines.{linesOf}
-use Rattle.sheet.specs.Parse.{parsed}
+use Rattle.sheet.specs.Parse.{process, opened, parsed}
 
 -- ---- lines
 pub record Split : Type 0 where
@@ -37,33 +39,56 @@ unfoldable pub expectedLines : Split → List (List ℕ)
 expectedLines x = map bytes (x .lines)
 
 -- ---- what a line says
-pub record Saying : Type 0 where
+pub record Saying (A : Type 0) : Type 0 where
   pub line : List ℕ
-  pub says : Line
+  pub says : A
 
 infix 80 _says_
-abbrev _says_ : String → Line → Saying
+abbrev _says_ : {A : Type 0} → String → A → Saying A
 s says x = record { line = bytes s; says = x }
+
+abbrev pub firstSayings : List (Saying Opening)
+firstSayings =
+    "u 1" says Fresh 1
+    ∷ "u 8" says Fresh 8
+    -- a size is 1 to 8
+    ∷ "u 0" says BadFirst 3
+    ∷ "u 9" says BadFirst 3
+    ∷ "u x" says BadFirst 3
+    -- breaking off
+    ∷ "" says BadFirst 1
+    ∷ "u" says BadFirst 2
+    ∷ "u " says BadFirst 3
+    -- anything else
+    ∷ "u 12" says BadFirst 4
+    ∷ "u 1 " says BadFirst 4
+    ∷ "u 1\r" says BadFirst 4
+    ∷ " " says BadFirst 1
+    ∷ " u 1" says BadFirst 1
+    ∷ "u  1" says BadFirst 3
+    ∷ "u\t1" says BadFirst 2
+    ∷ "U 1" says BadFirst 1
+    ∷ "x" says BadFirst 1
+    ∷ "r 1 1" says BadFirst 1
+    ∷ []
 
 -- lines that ask for a step, by the numbers in them
 abbrev reports : ℕ → ℕ → Line
-reports p v = Step (Report (record { 0 = p }) v)
+reports p v = Step (Report (process p) v)
 
 abbrev receives : ℕ → ℕ → Line
-receives q p = Step (Receive (record { 0 = q }) (record { 0 = p }))
+receives q p = Step (Receive (process q) (process p))
 
 abbrev responds : ℕ → ℕ → Line
-responds p q = Step (Respond (record { 0 = p }) (record { 0 = q }))
+responds p q = Step (Respond (process p) (process q))
 
 abbrev crashes : ℕ → Line
-crashes p = Step (Crash (record { 0 = p }))
+crashes p = Step (Crash (process p))
 
-abbrev pub sayings : List Saying
+abbrev pub sayings : List (Saying Line)
 sayings =
     -- each form; a process may be any digit, 0 and 9 among them, at each place
-    "u 1" says Fresh 1
-    ∷ "u 8" says Fresh 8
-    ∷ "r 1 1" says reports 1 1
+    "r 1 1" says reports 1 1
     ∷ "r 2 12345678" says reports 2 255
     ∷ "r 0 28" says reports 0 130
     ∷ "r 9 8" says reports 9 128
@@ -77,53 +102,63 @@ sayings =
     ∷ "s 3" says crashes 3
     ∷ "s 0" says crashes 0
     ∷ "s 9" says crashes 9
-    -- a size is 1 to 8
-    ∷ "u 0" says Bad
-    ∷ "u 9" says Bad
-    ∷ "u 12" says Bad
     -- a view's digits are 1 to 8 and rise
-    ∷ "r 1 0" says Bad
-    ∷ "r 1 9" says Bad
-    ∷ "r 1 11" says Bad
-    ∷ "r 1 21" says Bad
-    ∷ "r 1 -1" says Bad
-    ∷ "r 1 1-" says Bad
-    ∷ "r 1 --" says Bad
-    ∷ "r 1 1 2" says Bad
-    -- nothing more, nothing less
-    ∷ "" says Bad
-    ∷ " " says Bad
-    ∷ "u" says Bad
-    ∷ "u " says Bad
-    ∷ "u 1 " says Bad
-    ∷ " u 1" says Bad
-    ∷ "u  1" says Bad
-    ∷ "u\t1" says Bad
-    ∷ "u 1\r" says Bad
-    ∷ "U 1" says Bad
-    ∷ "r 1" says Bad
-    ∷ "r 1 " says Bad
-    ∷ "r 12 1" says Bad
-    ∷ "r 1  1" says Bad
-    ∷ "r 1 1 " says Bad
-    ∷ "t 1" says Bad
-    ∷ "t 1 " says Bad
-    ∷ "t 1 23" says Bad
-    ∷ "t 1 a" says Bad
-    ∷ "t 1 2 " says Bad
-    ∷ "a 1" says Bad
-    ∷ "a - 2" says Bad
-    ∷ "s" says Bad
-    ∷ "s 1 2" says Bad
-    ∷ "s x" says Bad
-    ∷ "x 1 2" says Bad
-    ∷ "q" says Bad
-    ∷ record { line = bytes "s " ++ (200 ∷ []); says = Bad }
-    ∷ record { line = bytes "s 1" ++ (0 ∷ []); says = Bad }
+    ∷ "r 1 0" says Bad 5
+    ∷ "r 1 9" says Bad 5
+    ∷ "r 1 11" says Bad 6
+    ∷ "r 1 21" says Bad 6
+    ∷ "r 1 1358642" says Bad 9
+    ∷ "r 1 123456789" says Bad 13
+    ∷ "r 1 -1" says Bad 6
+    ∷ "r 1 1-" says Bad 6
+    ∷ "r 1 --" says Bad 6
+    -- breaking off
+    ∷ "" says Bad 1
+    ∷ "r" says Bad 2
+    ∷ "r " says Bad 3
+    ∷ "r 1" says Bad 4
+    ∷ "r 1 " says Bad 5
+    ∷ "t" says Bad 2
+    ∷ "t 1" says Bad 4
+    ∷ "t 1 " says Bad 5
+    ∷ "a 1" says Bad 4
+    ∷ "s" says Bad 2
+    ∷ "s " says Bad 3
+    -- `u` comes only first
+    ∷ "u 1" says Bad 1
+    ∷ "u" says Bad 1
+    -- nothing more, nothing else
+    ∷ "r 12 1" says Bad 4
+    ∷ "r 1  1" says Bad 5
+    ∷ "r 1 1 " says Bad 6
+    ∷ "r 1 1 2" says Bad 6
+    ∷ "r 1 1\r" says Bad 6
+    ∷ "r - 1" says Bad 3
+    ∷ "r1 1" says Bad 2
+    ∷ "t 1 23" says Bad 6
+    ∷ "t 1 a" says Bad 5
+    ∷ "t 1 2 " says Bad 6
+    ∷ "t 1 2\r" says Bad 6
+    ∷ "a - 2" says Bad 3
+    ∷ "a 1-2" says Bad 4
+    ∷ "s 1 " says Bad 4
+    ∷ "s 1 2" says Bad 4
+    ∷ "s 1\r" says Bad 4
+    ∷ "s x" says Bad 3
+    ∷ " " says Bad 1
+    ∷ " s 1" says Bad 1
+    ∷ "x 1 2" says Bad 1
+    ∷ "q" says Bad 1
+    ∷ "S 1" says Bad 1
+    ∷ record { line = bytes "s " ++ (200 ∷ []); says = Bad 3 }
+    ∷ record { line = bytes "s 1" ++ (0 ∷ []); says = Bad 4 }
     ∷ []
 
-unfoldable pub saidBy : Saying → Line
-saidBy x = parsed (x .line)
+unfoldable pub saidFirst : Saying Opening → Opening
+saidFirst x = opened (x .line)
 
-abbrev pub expectedSaying : Saying → Line
+unfoldable pub said : Saying Line → Line
+said x = parsed (x .line)
+
+abbrev pub expectedSaying : {A : Type 0} → Saying A → A
 expectedSaying x = x .says

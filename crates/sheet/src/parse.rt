@@ -1,62 +1,71 @@
 // What a line of a sheet says.
 ghost use mathlib.Core.Path.{_≡_};
-ghost use Rattle.sheet.specs.Parse.{stands, begins, fits, digitAt, digitsView, viewIn, parsed};
+ghost use Prim.Native.Nat.{_+_, _<_, _≤_};
+ghost use lib.ListN.{length, getD, drop};
+ghost use Rattle.sheet.specs.Parse.{opened, parsed, stands, fitting, columnFrom, digitAt, risen, viewFrom};
 use plan::Step;
 use view::ProcessId;
 use view::and;
-use view::or;
 use view::with;
 
-// One line: document 01's `u N`, `r P VIEW`, `t Q P`, `a P Q` and `s P`, or none of these.
-pub enum Line {
-    Bad,
+// The first line: `u N`, or bad, from this column on.
+pub enum Opening {
+    Bad(usize),
     // The fresh system of so many processes.
     Fresh(u8),
+}
+
+// Any other line: `r P VIEW`, `t Q P`, `a P Q` and `s P`, or bad, from this column on.
+pub enum Line {
+    Bad(usize),
     Step(Step),
 }
 
-// No byte, and so no view.
-const NO_VIEW: u16 = 256;
-
-// Byte b may stand where a form has byte f.
+// Byte b may stand where a form has byte f. No form that is asked about here has a view.
 fn stands(f: u8, b: u8) -> bool
     ensures { λ r. ⌜ r ≡ stands f b ⌝ }
 {
     if f == b'N' {
         and(b'1' <= b, b <= b'8')
-    } else if or(f == b'P', f == b'Q') {
+    } else if and(b'A' <= f, f <= b'Z') {
         and(b'0' <= b, b <= b'9')
     } else {
         f == b
     }
 }
 
-// The line begins with a form.
-fn begins(form: &[u8], l: &[u8]) -> bool
-    ensures { λ r. ⌜ r ≡ begins (now (form .entry)) (now (l .entry)) ⌝ }
+// The place up to which the line, from a place on, is as the form has it.
+fn reach(form: &[u8], l: &[u8], from: usize) -> usize
+    ensures { λ r. ⌜ r ≡ from + fitting (now (form .entry)) (drop from (now (l .entry))) ⌝ }
 {
     let mut i = 0;
+    let mut at = from;
     while i < form.len() {
-        if l.len() <= i {
-            return false;
+        if l.len() <= at {
+            return at;
         }
-        if stands(form[i], l[i]) {
+        if stands(form[i], l[at]) {
             i += 1;
+            at += 1;
         } else {
-            return false;
+            return at;
         }
     }
-    true
+    at
 }
 
-// The line is of a form.
-fn fits(form: &[u8], l: &[u8]) -> bool
-    ensures { λ r. ⌜ r ≡ fits (now (form .entry)) (now (l .entry)) ⌝ }
+// The column from which on a line is bad that must be of the form from a place on; 0 where it is
+// good.
+fn column(form: &[u8], l: &[u8], from: usize) -> usize
+    requires { ⌜ (length (now form) ≤ 9) × (from ≤ 9) ⌝ }
+    ensures { λ r. ⌜ r ≡ columnFrom (now (form .entry)) (now (l .entry)) from ⌝ }
 {
-    if l.len() == form.len() {
-        begins(form, l)
+    let at = reach(form, l, from);
+    let end = from + form.len();
+    if and(at == end, l.len() == end) {
+        0
     } else {
-        false
+        at + 1
     }
 }
 
@@ -72,62 +81,136 @@ fn digit_at(l: &[u8], i: usize) -> u8
     }
 }
 
-// The view that rising digits say.
-fn rising(l: &[u8]) -> u16
-    ensures { λ r. ⌜ r ≡ digitsView (now (l .entry)) ⌝ }
+// A view, and the place where it ends.
+struct Field {
+    end: usize,
+    view: u8,
+}
+
+// The rising digits from a place on.
+fn rising(l: &[u8], from: usize) -> Field
+    ensures { λ r. ⌜ r ≡ risen from 48 0 (drop from (now (l .entry))) ⌝ }
 {
     let mut last = b'0';
     let mut view: u8 = 0;
-    let mut i = 0;
-    while i < l.len() {
-        let b = l[i];
+    let mut end = from;
+    while end < l.len() {
+        let b = l[end];
         if and(last < b, b <= b'8') {
             view = with(view, ProcessId(b - b'0'));
             last = b;
         } else {
-            return NO_VIEW;
+            return Field { end, view };
         }
-        i += 1;
+        end += 1;
     }
-    view as u16
+    Field { end, view }
 }
 
-// The view that a field says; NO_VIEW where it says none.
-fn view_in(l: &[u8]) -> u16
-    ensures { λ r. ⌜ r ≡ viewIn (now (l .entry)) ⌝ }
+// The view that begins at a place; it ends there where none does.
+fn view_at(l: &[u8], from: usize) -> Field
+    ensures { λ r. ⌜ r ≡ viewFrom from (drop from (now (l .entry))) ⌝ }
 {
-    if fits(b"-", l) {
-        0
-    } else if l.len() == 0 {
-        NO_VIEW
+    if from < l.len() {
+        if l[from] == b'-' {
+            Field {
+                end: from + 1,
+                view: 0,
+            }
+        } else {
+            rising(l, from)
+        }
     } else {
-        rising(l)
+        Field { end: from, view: 0 }
     }
 }
 
-// What a line says.
+// What a first line says.
+pub fn parse_first(l: &[u8]) -> Opening
+    ensures { λ r. ⌜ r ≡ opened (now (l .entry)) ⌝ }
+{
+    let bad = column(b"u N", l, 0);
+    if bad == 0 {
+        Opening::Fresh(digit_at(l, 2))
+    } else {
+        Opening::Bad(bad)
+    }
+}
+
+// What a line says that begins with `r`.
+fn parse_report(l: &[u8]) -> Line
+    requires { ⌜ (0 < length (now l)) × (getD (now l) 0 0 ≡ 114) ⌝ }
+    ensures { λ r. ⌜ r ≡ parsed (now (l .entry)) ⌝ }
+{
+    let at = reach(b" P ", l, 1);
+    if at < 4 {
+        return Line::Bad(at + 1);
+    }
+    let field = view_at(l, 4);
+    let end = field.end;
+    if and(4 < end, end == l.len()) {
+        Line::Step(Step::Report(ProcessId(digit_at(l, 2)), field.view))
+    } else {
+        Line::Bad(end + 1)
+    }
+}
+
+// What a line says that begins with `t`.
+fn parse_receive(l: &[u8]) -> Line
+    requires { ⌜ (0 < length (now l)) × (getD (now l) 0 0 ≡ 116) ⌝ }
+    ensures { λ r. ⌜ r ≡ parsed (now (l .entry)) ⌝ }
+{
+    let bad = column(b" Q P", l, 1);
+    if bad == 0 {
+        Line::Step(Step::Receive(ProcessId(digit_at(l, 2)), ProcessId(digit_at(l, 4))))
+    } else {
+        Line::Bad(bad)
+    }
+}
+
+// What a line says that begins with `a`.
+fn parse_respond(l: &[u8]) -> Line
+    requires { ⌜ (0 < length (now l)) × (getD (now l) 0 0 ≡ 97) ⌝ }
+    ensures { λ r. ⌜ r ≡ parsed (now (l .entry)) ⌝ }
+{
+    let bad = column(b" P Q", l, 1);
+    if bad == 0 {
+        Line::Step(Step::Respond(ProcessId(digit_at(l, 2)), ProcessId(digit_at(l, 4))))
+    } else {
+        Line::Bad(bad)
+    }
+}
+
+// What a line says that begins with `s`.
+fn parse_crash(l: &[u8]) -> Line
+    requires { ⌜ (0 < length (now l)) × (getD (now l) 0 0 ≡ 115) ⌝ }
+    ensures { λ r. ⌜ r ≡ parsed (now (l .entry)) ⌝ }
+{
+    let bad = column(b" P", l, 1);
+    if bad == 0 {
+        Line::Step(Step::Crash(ProcessId(digit_at(l, 2))))
+    } else {
+        Line::Bad(bad)
+    }
+}
+
+// What a line after the first says: its first byte chooses the form.
 pub fn parse(l: &[u8]) -> Line
     ensures { λ r. ⌜ r ≡ parsed (now (l .entry)) ⌝ }
 {
-    if fits(b"u N", l) {
-        return Line::Fresh(digit_at(l, 2));
+    if l.len() == 0 {
+        return Line::Bad(1);
     }
-    if begins(b"r P ", l) {
-        let view = view_in(&l[4..]);
-        if view < NO_VIEW {
-            return Line::Step(Step::Report(ProcessId(digit_at(l, 2)), view as u8));
-        } else {
-            return Line::Bad;
-        }
+    let b = l[0];
+    if b == b't' {
+        parse_receive(l)
+    } else if b == b'a' {
+        parse_respond(l)
+    } else if b == b'r' {
+        parse_report(l)
+    } else if b == b's' {
+        parse_crash(l)
+    } else {
+        Line::Bad(1)
     }
-    if fits(b"t Q P", l) {
-        return Line::Step(Step::Receive(ProcessId(digit_at(l, 2)), ProcessId(digit_at(l, 4))));
-    }
-    if fits(b"a P Q", l) {
-        return Line::Step(Step::Respond(ProcessId(digit_at(l, 2)), ProcessId(digit_at(l, 4))));
-    }
-    if fits(b"s P", l) {
-        return Line::Step(Step::Crash(ProcessId(digit_at(l, 2))));
-    }
-    Line::Bad
 }

@@ -98,6 +98,8 @@ fn refusals() {
     judge(b"refused_5");
     judge(b"refused_6");
     judge(b"refused_7");
+    judge(b"refused_10");
+    judge(b"refused_11");
     judge(b"order");
     judge(b"refused_9");
     judge(b"sheet_60000");
@@ -124,10 +126,12 @@ fn forms() {
     judge(b"first_view");
     judge(b"first_cr");
     judge(b"first_no_lf");
+    judge(b"bad_first");
     judge(b"later_u");
     judge(b"digits");
     judge(b"bad_views");
     judge(b"bad_forms");
+    judge(b"columns");
     judge(b"odd_bytes");
 }
 

@@ -1,8 +1,8 @@
 -- What every step answers: "the number 0 and the next table; or a refusal number and the same table back"; the number 1 only where the
 -- system is not sound; and a process that has stopped has stopped for good.
 use Prim.Native.Nat.{ℕ, _≤_}
-use mathlib.Core.Path.{_≡_, sym, _∙_, ap, subst}
-use mathlib.Core.Bool.{true, false, _&&_, not}
+use mathlib.Core.Path.{_≡_, refl, sym, _∙_, ap, subst}
+use mathlib.Core.Bool.{Bool, true, false, _&&_, _||_, not}
 use mathlib.Core.List.{List, [], _∷_}
 use mathlib.Core.Logic.{_⊎_, inl, inr, ⊎-elim}
 use native.Mathlib.Omega.{arith}
@@ -11,7 +11,7 @@ use lib.Dec.{leb, ltb, eqb}
 use Rattle.view.specs.declared.ProcessId.{ProcessId}
 use Rattle.view.specs.Logic.{pick, isOneOf}
 use Rattle.view.specs.View.{has, within, subset, leastOf}
-use Rattle.view.proofs.Laws.{by-pick, one-of, and-left, and-right, true-is-not-false}
+use Rattle.view.proofs.Laws.{by-pick, one-of, and-left, and-right, or-right, true-is-not-false}
 use Rattle.channel.specs.declared.Message.{Message}
 use Rattle.channel.specs.declared.Message.the-variants.{Propose, Retry, Acc, Commit}
 use Rattle.channel.specs.Channel.{frontOf, waiting}
@@ -40,87 +40,90 @@ use Rattle.step.proofs.SoundSteps.{step-sound}
 pub zero-or-same : (s : System) (o : Step) → (stepped s o .refusal ≡ 0) ⊎ (stepped s o .system ≡ s)
 zero-or-same s o = ⊎-elim inl (λ same. inr (ap (λ (a : Outcome). a .system) same)) (done-or-refused s o)
 
--- ---- every number is 0 to 7, and 1 is given for no sound system
-record Number (k : ℕ) : Type 0 where
-  small : k ≤ 7
-  other : k ≡ 1 → ⊥
+-- ---- every number is one of the table's, and 1 is given for no sound system
+-- the number stands in the list
+unfoldable pub among : List ℕ → ℕ → Bool
+among [] k = false
+among (a ∷ rest) k = eqb k a || among rest k
+
+-- what a step answers on a sound system: 0, or a number of the refusal table other than 1; 8 and 9 are a sheet's
+abbrev pub soundAnswers : List ℕ
+soundAnswers = 0 ∷ 2 ∷ 3 ∷ 4 ∷ 5 ∷ 6 ∷ 7 ∷ 10 ∷ 11 ∷ []
+
+-- and on any system
+abbrev pub answers : List ℕ
+answers = 1 ∷ soundAnswers
 
 abbrev Told : Plan → Type 0
-Told a = Number (a .refusal)
-
-zero-told : Number 0
-zero-told = record { small = omega arith; other = λ e. omega arith }
-
-told : (k : ℕ) → 2 ≤ k → k ≤ 7 → Number k
-told k l h = record { small = h; other = λ e. omega arith }
+Told a = among soundAnswers (a .refusal) ≡ true
 
 report-told : (n p v : ℕ) (x : Variables) → Told (reportPlan n p v x)
-unfolding reportPlan
+unfolding among reportPlan
 report-told n p v x =
     by-pick Told (within n v && has v p) _ _
     (λ a.
     by-pick Told (eqb (leastOf v .0) p) _ _
-    (λ b. by-pick Told (ltb (x .propout .0) 32) _ _ (λ c. zero-told) (λ c. told 6 (omega arith) (omega arith)))
-    (λ b. zero-told))
-    (λ a. told 4 (omega arith) (omega arith))
+    (λ b. by-pick Told (ltb (x .propout .0) 32) _ _ (λ c. refl) (λ c. refl))
+    (λ b. refl))
+    (λ a. refl)
 
 committing-told : (x : Variables) → Told (committingPlan x)
-unfolding committingPlan
-committing-told x = by-pick Told (not (eqb (x .proposal) 0) && subset (x .proposal) (x .acks)) _ _ (λ a. zero-told) (λ a. zero-told)
+unfolding among committingPlan
+committing-told x = by-pick Told (not (eqb (x .proposal) 0) && subset (x .proposal) (x .acks)) _ _ (λ a. refl) (λ a. refl)
 
 receive-told : (q : ProcessId) (p : ℕ) (x : Variables) (ms : List Message) → Told (receivePlan q p x (frontOf ms))
-unfolding receivePlan messagePlan
-receive-told q p x [] = told 5 (omega arith) (omega arith)
-receive-told q p x (Propose v i ∷ ms) = zero-told
+unfolding among receivePlan messagePlan
+receive-told q p x [] = refl
+receive-told q p x (Propose v i ∷ ms) = refl
 receive-told q p x (Retry old new ∷ ms) =
     by-pick Told (eqb (x .propout .0) (old .0) && eqb (leastOf (x .view) .0) p) _ _
-    (λ a. by-pick Told (leb (new .0) 32) _ _ (λ b. zero-told) (λ b. told 6 (omega arith) (omega arith)))
-    (λ a. zero-told)
+    (λ a. by-pick Told (leb (new .0) 32) _ _ (λ b. refl) (λ b. refl))
+    (λ a. refl)
 receive-told q p x (Acc i ∷ ms) = committing-told _
-receive-told q p x (Commit v i ∷ ms) = zero-told
+receive-told q p x (Commit v i ∷ ms) = refl
 
 respond-told : (n p : ℕ) (q : ProcessId) (x : Variables) (y : Pending) → soundPending n (q .0) p y ≡ true → Told (respondPlan q x y)
-unfolding respondPlan soundPending
-respond-told n p q x Nothing sound = told 5 (omega arith) (omega arith)
+unfolding among respondPlan soundPending
+respond-told n p q x Nothing sound = refl
 respond-told n p q x (Proposal v i) sound =
     by-pick Told (eqb v (x .view)) _ _
     (λ a.
     by-pick Told (ltb (i .0) (x .next .0)) _ _
-    (λ b. zero-told)
+    (λ b. refl)
     (λ b.
     by-pick Told (leb (i .0) 32) _ _
-    (λ c. zero-told)
+    (λ c. refl)
     (λ c. true-is-not-false (sym (le-leb (i .0) 32 (proposal-facts n (q .0) p v (i .0) sound .high)) ∙ c))))
-    (λ a. told 5 (omega arith) (omega arith))
+    (λ a. refl)
 
 abbrev Answer : Outcome → Type 0
-Answer o = Number (o .refusal)
+Answer o = among soundAnswers (o .refusal) ≡ true
 
 permitted-told : (s : System) (c : Scope) (a : Plan) → (isOneOf (s .n) (c .actor .0) ≡ true → isOneOf (s .n) (c .partner .0) ≡ true → Told a)
     → Answer (permitted s c a)
-unfolding permitted carriedOut
+unfolding among permitted carriedOut
 permitted-told s c a h =
     let to = isOneOf (s .n) (c .actor .0) in
     let from = isOneOf (s .n) (c .partner .0) in
     by-pick Answer (to && from) _ _
     (λ w.
     by-pick Answer (variablesAt s (c .actor .0) .crashed) _ _
-    (λ x. told 3 (omega arith) (omega arith))
+    (λ x. refl)
     (λ x.
     by-pick Answer (eqb (a .refusal) 0) _ _
-    (λ y. by-pick Answer (roomFor (takenOff s c) (c .actor .0) (a .addressees)) _ _ (λ z. zero-told) (λ z. told 7 (omega arith) (omega arith)))
+    (λ y. by-pick Answer (roomFor (takenOff s c) (c .actor .0) (a .addressees)) _ _ (λ z. refl) (λ z. refl))
     (λ y. h (and-left to from w) (and-right to from w))))
-    (λ w. told 2 (omega arith) (omega arith))
+    (λ w. refl)
 
 plan-told : (s : System) → Sound s → (o : Step) → isOneOf (s .n) (scopeOf o .actor .0) ≡ true → isOneOf (s .n) (scopeOf o .partner .0) ≡ true → Told (planOf s o)
-unfolding planOf scopeOf
+unfolding among planOf scopeOf
 plan-told s sound (Report p v) a b = report-told (s .n) (p .0) v (variablesAt s (p .0))
 plan-told s sound (Receive q p) a b = receive-told q (p .0) (variablesAt s (p .0)) (waiting (channelAt s (q .0) (p .0)))
 plan-told s sound (Respond p q) a b =
     let x = one-of (s .n) (p .0) a in
     let y = one-of (s .n) (q .0) b in
     respond-told (s .n) (p .0) q (variablesAt s (p .0)) (pendingAt (processAt s (p .0)) (q .0)) (sound .process (p .0) (x .0) (x .1) .recorded (q .0) (y .0) (y .1))
-plan-told s sound (Crash p) a b = zero-told
+plan-told s sound (Crash p) a b = refl
 
 attempted-told : (s : System) → Sound s → (o : Step) → Answer (attempted s o)
 unfolding attempted
@@ -128,7 +131,9 @@ attempted-told s sound o = permitted-told s (scopeOf o) (planOf s o) (plan-told 
 
 -- a sound system is never called unsound
 pub sound-not-1 : (s : System) (o : Step) → soundSystem s ≡ true → stepped s o .refusal ≡ 1 → ⊥
-sound-not-1 s o e one = attempted-told s (sound-facts s e) o .other (sym (ap (λ (a : Outcome). a .refusal) (sound-stepped s o e)) ∙ one)
+unfolding among
+sound-not-1 s o e one =
+    true-is-not-false (sym (attempted-told s (sound-facts s e) o) ∙ ap (among soundAnswers) (sym (ap (λ (a : Outcome). a .refusal) (sound-stepped s o e)) ∙ one))
 
 -- an unsound one always is, and comes back as it was
 pub unsound-is-1 : (s : System) (o : Step) → soundSystem s ≡ false → stepped s o ≡ refused 1 s
@@ -136,10 +141,12 @@ unfolding stepped pick
 unsound-is-1 s o e = rw e
 
 -- every number is one of the table's
-pub number-to-7 : (s : System) (o : Step) → stepped s o .refusal ≤ 7
-unfolding stepped
-number-to-7 s o =
-    by-pick (λ (a : Outcome). a .refusal ≤ 7) (soundSystem s) _ _ (λ e. attempted-told s (sound-facts s e) o .small) (λ e. omega arith)
+pub number-listed : (s : System) (o : Step) → among answers (stepped s o .refusal) ≡ true
+unfolding among stepped
+number-listed s o =
+    by-pick (λ (a : Outcome). among answers (a .refusal) ≡ true) (soundSystem s) _ _
+    (λ e. or-right (eqb (attempted s o .refusal) 1) (among soundAnswers (attempted s o .refusal)) (attempted-told s (sound-facts s e) o))
+    (λ e. refl)
 
 -- ---- stopped for good
 stays-stopped : {s t : System} {o : Step} → Transition s t o → (k : ℕ) → variablesAt s k .crashed ≡ true → variablesAt t k .crashed ≡ true

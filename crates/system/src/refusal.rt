@@ -1,4 +1,6 @@
-// The refusal table of document 01. 0 stands for a step that is done.
+// The refusal table of document 01, with the numbers that document 02 adds. 0 stands for a step that
+// is done. Which of several numbers is given is the definitions' to say: 10 and 11 stand "in the place
+// of 5 in the order".
 
 // "the table is not sound"
 pub const UNSOUND: u8 = 1;
@@ -12,8 +14,7 @@ pub const CRASHED: u8 = 3;
 // "a report names a unit beyond n, or lacks its own unit"
 pub const ODD_VIEW: u8 = 4;
 
-// "taking from an empty line; answering with no recorded proposal, or with one whose view is not the
-// local view"
+// "taking from an empty line"
 pub const NOTHING_THERE: u8 = 5;
 
 // "a report by the least unit of its view with PropOut 32; a Retry that would be acted on, with new
@@ -28,3 +29,9 @@ pub const BAD_LINE: u8 = 8;
 
 // "a sheet of more than 60,000 bytes"
 pub const LONG_SHEET: u8 = 9;
+
+// "An answer with no record gets its own number"
+pub const NO_RECORD: u8 = 10;
+
+// "and so does one whose recorded view is not the local view"
+pub const OTHER_VIEW: u8 = 11;

@@ -42,8 +42,6 @@ const STEPS: &[&str] = &[
     "4 lacks its own",
     "4 both",
     "5 empty line",
-    "5 no record",
-    "5 record of another view",
     "6 report",
     "6 report, its line full",
     "6 Retry",
@@ -52,6 +50,10 @@ const STEPS: &[&str] = &[
     "7 Retry",
     "7 answer, Acc",
     "7 answer, Retry",
+    "10 no record",
+    "10 no record, the line full",
+    "11 record of another view",
+    "11 record of another view, the line full",
 ];
 
 /// The same, but only on systems that no run reaches.
@@ -185,9 +187,13 @@ pub fn way(before: &System, step: Step, number: u8) -> &'static str {
             }
         }
         (Step::Receive { .. }, 5) => "5 empty line",
-        (Step::Respond { p, to }, 5) => match record(before, p, to) {
-            None => "5 no record",
-            Some(_) => "5 record of another view",
+        (Step::Respond { p, to }, 10) => match is_full(before, p, to) {
+            true => "10 no record, the line full",
+            false => "10 no record",
+        },
+        (Step::Respond { p, to }, 11) => match is_full(before, p, to) {
+            true => "11 record of another view, the line full",
+            false => "11 record of another view",
         },
         (Step::Report { p, .. }, 6) => match is_full(before, p, p) {
             true => "6 report, its line full",

@@ -1,4 +1,4 @@
-//! The refusal table of document 01.
+//! The refusal table of document 01, and the numbers that document 02 adds.
 
 /// Why a step, or a line of a sheet, is refused.
 #[derive(Clone, Copy, Debug, PartialEq, Eq)]
@@ -11,7 +11,7 @@ pub enum Refusal {
     Crashed,
     /// A reported view names a stranger, or lacks the process itself.
     OddView,
-    /// Nothing to receive, or nothing to respond to.
+    /// Nothing to receive.
     NothingThere,
     /// No group index is left to propose.
     HistoryFull,
@@ -21,6 +21,10 @@ pub enum Refusal {
     BadLine,
     /// The sheet has too many bytes.
     LongSheet,
+    /// Nothing recorded to respond to.
+    NoRecord,
+    /// What is recorded has another view than the local one.
+    OtherView,
 }
 
 /// What a step answers.
@@ -39,6 +43,8 @@ pub fn number(outcome: Outcome) -> u8 {
         Err(Refusal::ChannelFull) => 7,
         Err(Refusal::BadLine) => 8,
         Err(Refusal::LongSheet) => 9,
+        Err(Refusal::NoRecord) => 10,
+        Err(Refusal::OtherView) => 11,
     }
 }
 

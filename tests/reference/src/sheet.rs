@@ -4,6 +4,8 @@ use crate::refusal::{number, Outcome, Refusal};
 use crate::step::Step;
 use crate::system::{fresh, System};
 use crate::view::{ProcessId, View};
+use std::collections::BTreeMap;
+use std::sync::OnceLock;
 
 /// "a sheet of more than 60,000 bytes" is a long one.
 pub const SHEET_LIMIT: usize = 60_000;
@@ -24,25 +26,26 @@ fn printed(sheet: &[u8]) -> String {
         return String::new();
     };
     let mut out = String::new();
-    match size(first) {
+    match first_lines().get(*first) {
         Some(n) => {
-            let (_, mut system) = fresh(n);
+            let (_, mut system) = fresh(*n);
             for (line, line_number) in lines.iter().zip(1..).skip(1) {
-                let outcome = match step(line) {
-                    Some(step) => step.run(&mut system),
-                    None => Err(Refusal::BadLine),
+                out += &match later_lines().get(*line) {
+                    Some(step) => outcome_line(line_number, step.run(&mut system)),
+                    None => bad_line(line_number, column(later_lines(), line)),
                 };
-                out += &outcome_line(line_number, outcome);
             }
             for p in system.everyone().members() {
                 out += &process_line(&system, p);
             }
         }
         // "Anything else, an empty line too, is refusal 8; if the first line
-        // is, so is every line after it."
+        // is, so is every line after it." S-1: "Each line after a bad first
+        // line has column 0."
         None => {
-            for line_number in 1..=lines.len() {
-                out += &outcome_line(line_number, Err(Refusal::BadLine));
+            out += &bad_line(1, column(first_lines(), first));
+            for line_number in 2..=lines.len() {
+                out += &bad_line(line_number, 0);
             }
         }
     }
@@ -58,56 +61,62 @@ fn lines(sheet: &[u8]) -> Vec<&[u8]> {
     lines
 }
 
-/// "Fields are parted by one space."
-fn fields(line: &[u8]) -> Vec<&[u8]> {
-    line.split(|byte| *byte == b' ').collect()
+/// Every line that is allowed first: "`u N` first and only first, N 1 to 8".
+fn first_lines() -> &'static BTreeMap<Vec<u8>, u8> {
+    static LINES: OnceLock<BTreeMap<Vec<u8>, u8>> = OnceLock::new();
+    LINES.get_or_init(|| (1..=8).map(|n| (format!("u {n}").into_bytes(), n)).collect())
 }
 
-/// "`u N` first and only first, N 1 to 8"
-fn size(line: &[u8]) -> Option<u8> {
-    match fields(line)[..] {
-        [b"u", n] => digit(n).filter(|n| (1..=8).contains(n)),
-        _ => None,
-    }
-}
-
-/// "`r P VIEW`; `t Q P` (take, from Q at P); `a P Q` (P answers Q); `s P`"
-fn step(line: &[u8]) -> Option<Step> {
-    match fields(line)[..] {
-        [b"r", p, view] => Some(Step::Report { p: process(p)?, view: view_of(view)? }),
-        [b"t", q, p] => Some(Step::Receive { from: process(q)?, at: process(p)? }),
-        [b"a", p, q] => Some(Step::Respond { p: process(p)?, to: process(q)? }),
-        [b"s", p] => Some(Step::Crash { p: process(p)? }),
-        _ => None,
-    }
-}
-
-/// "P and Q are one digit."
-fn process(field: &[u8]) -> Option<ProcessId> {
-    digit(field).map(ProcessId)
-}
-
-fn digit(field: &[u8]) -> Option<u8> {
-    match field {
-        [byte @ b'0'..=b'9'] => Some(byte - b'0'),
-        _ => None,
-    }
+/// Every line that is allowed later: "`r P VIEW`; `t Q P` (take, from Q at P);
+/// `a P Q` (P answers Q); `s P`. P and Q are one digit."
+fn later_lines() -> &'static BTreeMap<Vec<u8>, Step> {
+    static LINES: OnceLock<BTreeMap<Vec<u8>, Step>> = OnceLock::new();
+    LINES.get_or_init(|| {
+        let mut lines = BTreeMap::new();
+        let mut allow = |line: String, step| lines.insert(line.into_bytes(), step);
+        for p in (0..=9).map(ProcessId) {
+            for view in (0..=u8::MAX).map(View) {
+                allow(format!("r {} {}", p.0, view_text(view)), Step::Report { p, view });
+            }
+            for q in (0..=9).map(ProcessId) {
+                allow(format!("t {} {}", q.0, p.0), Step::Receive { from: q, at: p });
+                allow(format!("a {} {}", p.0, q.0), Step::Respond { p, to: q });
+            }
+            allow(format!("s {}", p.0), Step::Crash { p });
+        }
+        lines
+    })
 }
 
 /// "VIEW is `-` for the empty set, else digits 1 to 8 strictly rising."
-fn view_of(field: &[u8]) -> Option<View> {
-    if field == b"-" {
-        return Some(View::EMPTY);
+fn view_text(view: View) -> String {
+    let digits: String = view.members().map(|p| p.0.to_string()).collect();
+    if digits.is_empty() {
+        "-".into()
+    } else {
+        digits
     }
-    let digits = field.iter().all(|byte| (b'1'..=b'8').contains(byte));
-    let rising = field.windows(2).all(|two| two[0] < two[1]);
-    let processes = field.iter().map(|byte| ProcessId(byte - b'0'));
-    (digits && rising && !field.is_empty()).then(|| processes.fold(View::EMPTY, View::with))
+}
+
+/// S-1: "the column, counted from 1, of the first byte with which the line so
+/// far begins no line allowed there; for a line that merely breaks off, that is
+/// its length plus 1"
+fn column<T>(allowed: &BTreeMap<Vec<u8>, T>, line: &[u8]) -> usize {
+    let begins = |so_far: &[u8]| {
+        let mut from_here = allowed.range(so_far.to_vec()..);
+        from_here.next().is_some_and(|(line, _)| line.starts_with(so_far))
+    };
+    (1..=line.len()).find(|&length| !begins(&line[..length])).unwrap_or(line.len() + 1)
 }
 
 /// "its line number in the sheet, a space and the refusal number or 0"
 fn outcome_line(line_number: usize, outcome: Outcome) -> String {
     format!("{line_number} {}\n", number(outcome))
+}
+
+/// S-1: "The column stands after the 8 and a space."
+fn bad_line(line_number: usize, column: usize) -> String {
+    format!("{line_number} {} {column}\n", number(Err(Refusal::BadLine)))
 }
 
 /// "`unit`, its number, `live` or `stopped`, `next`, Next, and for each
@@ -117,8 +126,7 @@ fn process_line(system: &System, p: ProcessId) -> String {
     let life = if process.crashed { "stopped" } else { "live" };
     let mut line = format!("unit {} {life} next {}", p.0, process.next.0);
     for (i, view) in process.entries().filter(|(_, view)| !view.is_empty()) {
-        let digits: String = view.members().map(|q| q.0.to_string()).collect();
-        line += &format!(" {}={digits}", i.0);
+        line += &format!(" {}={}", i.0, view_text(view));
     }
     line + "\n"
 }

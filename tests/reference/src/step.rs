@@ -149,11 +149,13 @@ fn received(mut after: System, q: ProcessId, p: ProcessId) -> Result<System, Ref
 
 fn responded(mut after: System, p: ProcessId, q: ProcessId) -> Result<System, Refusal> {
     let process = after.process_mut(p);
-    // "p has a recorded proposal from q whose view equals p's local view."
+    // "p has a recorded proposal from q whose view equals p's local view." S-1:
+    // "An answer with no record gets its own number, and so does one whose
+    // recorded view is not the local view."
     let Some(Proposal { view, index }) = process.recorded(q) else {
-        return Err(Refusal::NothingThere);
+        return Err(Refusal::NoRecord);
     };
-    refuse_if(view != process.view, Refusal::NothingThere)?;
+    refuse_if(view != process.view, Refusal::OtherView)?;
     // "The record is cleared."
     process.set_recorded(q, None);
     // "If its position is below Next, Retry(that position, Next) goes to q.

@@ -44,8 +44,10 @@ fn numbers_of_the_table() {
         Refusal::ChannelFull,
         Refusal::BadLine,
         Refusal::LongSheet,
+        Refusal::NoRecord,
+        Refusal::OtherView,
     ];
-    assert_eq!(table.map(|refusal| number(Err(refusal))), [1, 2, 3, 4, 5, 6, 7, 8, 9]);
+    assert_eq!(table.map(|refusal| number(Err(refusal))), [1, 2, 3, 4, 5, 6, 7, 8, 9, 10, 11]);
     assert_eq!(number(Ok(())), 0);
 }
 
@@ -102,11 +104,11 @@ fn odd_view_before_full() {
 fn nothing_there() {
     let mut system = system(2);
     refused(&system, receive_by(1, 2), 5);
-    refused(&system, respond_by(1, 1), 5);
+    refused(&system, respond_by(1, 1), 10);
     // A record that does not match waits, and is asked before room.
     system.process_mut(id(1)).set_recorded(id(1), Some(at(1, 2)));
     put(&mut system, 1, 1, &[acc(2); 8]);
-    refused(&system, respond_by(1, 1), 5);
+    refused(&system, respond_by(1, 1), 11);
 }
 
 #[test]
@@ -158,8 +160,8 @@ fn own_channel_full_and_message_from_another() {
 
 #[test]
 fn on_one_sheet() {
-    // 1 is only for handed-in systems, 6 is at K4, 9 at the long sheet.
+    // 1 is only for handed-in systems, 6 is at K4, 8 at the bad lines, 9 at the long sheet.
     let filled = "; r 1 12".repeat(8);
-    let sheet = format!("u 2; s 3{filled}; r 1 12; t 2 1; r 1 2; x; s 1; s 1");
-    check(&sheet, "2 00000000 7 5 4 8 0 3", "unit 1 stopped next 2 1=12; unit 2 live next 2 1=12");
+    let sheet = format!("u 2; s 3{filled}; r 1 12; t 2 1; r 1 2; a 2 1; s 1; s 1");
+    check(&sheet, "2 00000000 7 5 4 a 0 3", "unit 1 stopped next 2 1=12; unit 2 live next 2 1=12");
 }

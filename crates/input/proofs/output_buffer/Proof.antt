@@ -4,7 +4,7 @@ use Rattle.input.proofs.output_buffer.Statement.{statement}
 use Rattle.input.proofs.output_buffer.Tie as tie
 
 returns : tie.Need-returns
-returns c = zeros 483400
+returns c = zeros 603400
 
 pub output-buffer-spec : {M : Type 1} → statement M
 output-buffer-spec = tie.close (tie.spec returns)

@@ -1,4 +1,4 @@
--- `print::put_numbered`: the line is typed part by part.
+-- `print::put_numbered`: the numbers, and a line feed.
 use borrow.Author.Needs.{needs}
 use Rattle.print.specs.Text.{bytes}
 use Rattle.print.specs.Print.{numberedLine}
@@ -10,20 +10,13 @@ returns : tie.Need-returns
 unfolding numberedLine bytes
 returns c =
     let d = c .before .before in
-    let r = d .before .before .before .before .before in
-    let s = r .before .before .before .before in
-    let n = s .before .before .before .before .before in
-    let t2 = in-turn _ _ _ _ _ (n .put-decimal .ensures) (s .put-text .ensures) in
-    let t3 = in-turn _ _ _ _ _ t2 (r .put-decimal2 .ensures) in
-    in-turn _ _ _ _ _ t3 (d .put-text2 .ensures)
+    let n = d .before .before .before .before .before in
+    in-turn _ _ _ _ _ (n .put-numbers .ensures) (d .put-text .ensures)
 
 pub put-numbered-spec : {M : Type 1} → statement M
 put-numbered-spec =
     tie.close
     (tie.spec
-    (λ c κs. search needs)
-    (λ c. search needs)
-    (λ c κs. search needs)
     (λ c κs. search needs)
     (λ c. search needs)
     (λ c κs. search needs)

@@ -17,13 +17,13 @@ returns : tie.Need-returns
 returns c =
     let a = c .before .before .before .args in
     let text = output (a .sheet .now) in
-    let room : length (a .out .now) ≡ 483400 = search needs in
+    let room : length (a .out .now) ≡ 603400 = search needs in
     let fits : length text ≤ length (a .out .now) = subst (λ (n : ℕ). length text ≤ n) (sym room) (output-length (a .sheet .now)) in
     let page = c .run-sheet .ensures ∙ fits-in (a .out .now) 0 text (omega arith) in
     let count : c .run-sheet .result ≡ length text = ap (λ (p : Page). p .place) page ∙ zero-add (length text) in (
       count,
       ap (λ (p : Page). p .buffer) page ∙ ap (λ (n : ℕ). text ++ drop n (a .out .now)) (zero-add (length text) ∙ sym count),
-      subst (λ (n : ℕ). n ≤ 483400) (sym count) (output-length (a .sheet .now)),
+      subst (λ (n : ℕ). n ≤ 603400) (sym count) (output-length (a .sheet .now)),
     )
 
 pub print-sheet-spec : {M : Type 1} → statement M

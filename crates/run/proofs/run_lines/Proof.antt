@@ -42,25 +42,24 @@ cut c = line-found _ _ _ _ _ (sym (c .before .before .before .read-line .ensures
 
 add-line : tie.Need-add-line Inv-loop μ-loop
 add-line c =
-    let known = c .before .before .before .before .before .before .before .before .before .before in
+    let known = c .before .before .before .before .before .before .before .before .before in
     let i = known .before .before .before .before .loop .inv in
     omega (arith, i .1, i .2, cut known .onward, cut known .last)
 
 loop-less : tie.Need-loop-less Inv-loop μ-loop
-loop-less c = let k = cut (c .before .before .before .before .before .before .before .before .before .before) in omega (arith, k .onward, k .last)
+loop-less c = let k = cut (c .before .before .before .before .before .before .before .before .before) in omega (arith, k .onward, k .last)
 
 loop-again : tie.Need-loop-again Inv-loop μ-loop
 loop-again c =
-    let printed = c .before .before .put-numbered in
-    let done = c .before .before .before .before .before .before .run-line in
-    let known = c .before .before .before .before .before .before .before .before .before .before in
+    let done = c .before .before .before .before .run-line in
+    let known = c .before .before .before .before .before .before .before .before .before in
     let i = known .before .before .before .before .loop .inv in
     let k = cut known in (
-      done .ensures .1,
+      done .ensures .2,
       i .1,
       omega (arith, i .2, k .onward),
-      printed-again _ _ _ _ _ _ _ _ _ _ _ _ k (c .before .before .before .before .before .before .before .parse .ensures) (done .ensures .0 .outcome) (i .3) (printed .ensures),
-      printed .kept .0 ∙ i .4,
+      printed-again _ _ _ _ _ _ _ _ _ _ _ _ k (c .before .before .before .before .before .parse .ensures) (done .ensures .1) (i .3) (done .ensures .0),
+      done .kept .1 .0 ∙ i .4,
       done .kept .0 ∙ i .5,
     )
 
@@ -78,12 +77,11 @@ run-lines-spec =
     (λ c. c .before .before .put-units .kept .0 ∙ c .before .before .before .before .before .before .before .before .loop .inv .4)
     returns
     (λ c. search needs)
-    (λ c. cut (c .before) .ordered)
-    (λ c. cut (c .before) .ordered)
-    (λ c. cut (c .before) .within)
+    (λ c. cut (c .before .before) .ordered)
+    (λ c. cut (c .before .before) .ordered)
+    (λ c. cut (c .before .before) .within)
     (λ c κs. search needs)
-    (λ c κs. c .before .before .before .before .before .before .before .loop .inv .0)
-    (λ c κs. search needs)
+    (λ c κs. c .before .before .before .before .before .before .before .before .loop .inv .0)
     add-line
     loop-less
     loop-again)

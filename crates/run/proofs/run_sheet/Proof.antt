@@ -4,7 +4,8 @@ use borrow.Author.Needs.{needs}
 use Rattle.print.specs.Text.{bytes}
 use Rattle.print.specs.Page.{typed}
 use Rattle.sheet.proofs.Laws.{Cut, line-found, end-found}
-use Rattle.run.proofs.Laws.{output-long, output-none, output-started, output-bad}
+use Rattle.run.specs.Output.{startedBy}
+use Rattle.run.proofs.Laws.{output-long, output-none, output-begins, started-size}
 use Rattle.run.proofs.run_sheet.Statement.{statement}
 use Rattle.run.proofs.run_sheet.Tie as tie
 
@@ -17,23 +18,29 @@ cut : (c : tie.After-known-told) → Cut (c .before .before .before .before .bef
 cut c = line-found _ _ _ _ _ (sym (c .before .before .before .read-line .ensures) ∙ c .before .start .given .1)
 
 run-fresh-requires : tie.Need-run-fresh-requires
-run-fresh-requires c κs = (sym (c .before .before .and .ensures) ∙ c .before .if2 .taken, c .before .before .before .before .before .before .before .before .before .before .if1 .left)
+run-fresh-requires c κs =
+    let size = c .before .before in
+    let first = size .before .before in
+    (started-size _ _ _ (first .parse-first .ensures) (size .n .given .1), first .before .before .before .before .before .before .if1 .left)
 
 returns-2 : tie.Need-returns-2
 unfolding typed
 returns-2 c = rw (output-none _ (c .before .before .before .if1 .left) (end-found _ _ (sym (c .before .before .read-line .ensures) ∙ c .enum-told .given .1)))
 
 returns-3 : tie.Need-returns-3
+unfolding startedBy
 returns-3 c =
-    rw
-    (output-started _ _ _ _ _ _ _ (c .before .before .before .before .before .before .before .before .before .before .before .before .before .if1 .left) (cut (c .before .before .before .before .before .before .before .before .before)) (c .before .before .before .before .before .before .before .parse .ensures) (c .before .before .before .before .before .before .size-in .ensures) (c .before .before .before .before .before .and .ensures) (c .before .before .before .before .if2 .taken))
-    (c .before .before .run-fresh .ensures)
+    let size = c .before .before .before .before .before in
+    let first = size .before .before in
+    let known = first .before .before in
+    rw (output-begins _ _ _ _ _ (known .before .before .before .before .if1 .left) (cut known) (first .parse-first .ensures), size .n .given .1) (c .before .before .run-fresh .ensures)
 
 returns-4 : tie.Need-returns-4
 returns-4 c =
-    rw
-    (output-bad _ _ _ _ _ _ _ (c .before .before .before .before .before .before .before .before .before .before .before .before .before .if1 .left) (cut (c .before .before .before .before .before .before .before .before .before)) (c .before .before .before .before .before .before .before .parse .ensures) (c .before .before .before .before .before .before .size-in .ensures) (c .before .before .before .before .before .and .ensures) (c .before .before .before .before .if2 .left))
-    (c .before .before .all-bad .ensures)
+    let bad = c .before .before .before .before .before in
+    let first = bad .before .before in
+    let known = first .before .before in
+    rw (output-begins _ _ _ _ _ (known .before .before .before .before .if1 .left) (cut known) (first .parse-first .ensures), bad .column .given .1) (c .before .before .all-bad .ensures)
 
 pub run-sheet-spec : {M : Type 1} → statement M
 run-sheet-spec =
@@ -50,9 +57,9 @@ run-sheet-spec =
     (λ c. cut c .ordered)
     (λ c. cut c .within)
     (λ c κs. search needs)
-    (λ c κs. search needs)
-    (λ c κs. search needs)
+    (λ c. search needs)
     run-fresh-requires
+    (λ c. search needs)
     (λ c κs. search needs)
     returns-2
     (λ c. search needs)

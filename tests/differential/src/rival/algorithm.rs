@@ -98,7 +98,8 @@ pub fn respond(system: &mut System, p: ProcessId, q: ProcessId) -> Outcome {
     let process = system.process(p);
     let index = match process.recorded[q.slot()] {
         Some(proposal) if proposal.view == process.view => proposal.index,
-        _ => return Err(Refusal::NothingThere),
+        Some(_) => return Err(Refusal::OtherView),
+        None => return Err(Refusal::NoRecord),
     };
     system.require_room(p, View::only(q))?;
     let process = system.process_mut(p);

@@ -12,7 +12,7 @@ pub enum Refusal {
     Crashed = 3,
     /// A reported view names a stranger, or lacks the process itself.
     OddView = 4,
-    /// Nothing to receive, or nothing to respond to.
+    /// Nothing to receive.
     NothingThere = 5,
     /// No group index is left to propose.
     HistoryFull = 6,
@@ -22,6 +22,10 @@ pub enum Refusal {
     BadLine = 8,
     /// The sheet has too many bytes.
     LongSheet = 9,
+    /// Nothing recorded to respond to.
+    NoRecord = 10,
+    /// What is recorded has another view than the local one.
+    OtherView = 11,
 }
 
 /// What a step answers.

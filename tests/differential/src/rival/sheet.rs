@@ -23,18 +23,17 @@ pub fn run_sheet_onto(out: &mut Vec<u8>, sheet: &[u8]) {
             // A fresh system is sound and steps keep it so.
             let mut system = System::initial(n);
             for (line, line_number) in lines {
-                let outcome = match parse_step(line) {
-                    Some(step) => step.run_on_sound(&mut system),
-                    None => Err(Refusal::BadLine),
-                };
-                print_outcome(out, line_number, outcome);
+                match parse_step(line) {
+                    Some(step) => print_outcome(out, line_number, step.run_on_sound(&mut system)),
+                    None => print_bad(out, line_number, column(line)),
+                }
             }
             print_processes(out, &system);
         }
         None => {
-            print_outcome(out, 1, Err(Refusal::BadLine));
+            print_bad(out, 1, 1 + fitting(first, b"u N"));
             for (_, line_number) in lines {
-                print_outcome(out, line_number, Err(Refusal::BadLine));
+                print_bad(out, line_number, 0);
             }
         }
     }
@@ -93,9 +92,51 @@ fn parse_view(field: &[u8]) -> Option<View> {
     (!view.is_empty()).then_some(view)
 }
 
+/// How many bytes of the line are as a form has them: N is 1 to 8, P any digit, other bytes themselves.
+fn fitting(line: &[u8], form: &[u8]) -> u32 {
+    let fits = |(byte, form): &(&u8, &u8)| match form {
+        b'N' => (b'1'..=b'8').contains(byte),
+        b'P' => byte.is_ascii_digit(),
+        _ => byte == form,
+    };
+    line.iter().zip(form).take_while(fits).count() as u32
+}
+
+/// The column of a bad line after the first.
+fn column(line: &[u8]) -> u32 {
+    let form: &[u8] = match line.first() {
+        Some(b'r') => b"r P ",
+        Some(b't') => b"t P P",
+        Some(b'a') => b"a P P",
+        Some(b's') => b"s P",
+        _ => return 1,
+    };
+    match (fitting(line, form), &line[form.len().min(line.len())..]) {
+        (4, [b'-', ..]) if line[0] == b'r' => 6,
+        (4, view) if line[0] == b'r' => {
+            let rising = view.iter().scan(b'0', |last, &digit| {
+                let rises = *last < digit && digit <= b'8';
+                *last = digit;
+                rises.then_some(())
+            });
+            5 + rising.count() as u32
+        }
+        (count, _) => 1 + count,
+    }
+}
+
 fn print_outcome(out: &mut Vec<u8>, line_number: u32, outcome: Outcome) {
     print_number(out, line_number);
-    out.extend([b' ', b'0' + number(outcome), b'\n']);
+    out.push(b' ');
+    print_number(out, number(outcome).into());
+    out.push(b'\n');
+}
+
+fn print_bad(out: &mut Vec<u8>, line_number: u32, column: u32) {
+    print_number(out, line_number);
+    out.extend(b" 8 ");
+    print_number(out, column);
+    out.push(b'\n');
 }
 
 fn print_processes(out: &mut Vec<u8>, system: &System) {

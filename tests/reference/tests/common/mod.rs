@@ -13,9 +13,9 @@ pub fn sheet(short: &str) -> String {
 /// after it, blanks apart; `units` the unit lines, written like a sheet.
 pub fn check(short: &str, outcomes: &str, units: &str) {
     let mut expected = String::new();
-    let digits = outcomes.chars().filter(|c| *c != ' ');
-    for (line_number, digit) in (2..).zip(digits) {
-        expected += &format!("{line_number} {digit}\n");
+    let numbers = outcomes.chars().filter_map(|c| c.to_digit(16));
+    for (line_number, number) in (2..).zip(numbers) {
+        expected += &format!("{line_number} {number}\n");
     }
     expected += &sheet(units);
     expected += "\n";

@@ -1,0 +1,51 @@
+-- `parse::parse_report`: the process, and then a view to the end of the line, or not.
+use borrow.Author.Needs.{needs}
+use mathlib.Core.Path.{sym}
+use native.Mathlib.Omega.{arith}
+use lib.ListN.{drop}
+use Rattle.print.specs.Text.{bytes}
+use Rattle.sheet.proofs.Parsing.{view-near}
+use Rattle.sheet.proofs.FirstBytes.{report-short, report-good, report-bad}
+use Rattle.sheet.proofs.parse.parse_report.Statement.{statement}
+use Rattle.sheet.proofs.parse.parse_report.Tie as tie
+
+returns : tie.Need-returns
+unfolding bytes
+returns c =
+    let pre = c .before .before .before .before .pre in
+    sym (report-short _ _ (pre .0) (pre .1) (c .before .reach .ensures) (c .if1 .taken))
+
+add-t17 : tie.Need-add-t17
+add-t17 c =
+    let v = c .before .before in
+    omega (arith, view-near (v .view-at .result) 4 (drop 4 (v .before .before .before .before .before .args .l .now)) (v .view-at .ensures))
+
+returns-2 : tie.Need-returns-2
+unfolding bytes
+returns-2 c =
+    let v = c .before .before .before in
+    let pre = v .before .before .before .before .before .pre in
+    rw (c .digit-at .ensures)
+    (sym (report-good _ _ (pre .0) (pre .1) (v .before .before .reach .ensures) (v .before .if1 .left) _ _ (v .view-at .ensures) (c .before .before .and .ensures) (c .before .if2 .taken)))
+
+returns-3 : tie.Need-returns-3
+unfolding bytes
+returns-3 c =
+    let v = c .before .before in
+    let pre = v .before .before .before .before .before .pre in
+    sym (report-bad _ _ (pre .0) (pre .1) (v .before .before .reach .ensures) (v .before .if1 .left) _ _ (v .view-at .ensures) (c .before .and .ensures) (c .if2 .left))
+
+pub parse-report-spec : {M : Type 1} → statement M
+parse-report-spec =
+    tie.close
+    (tie.spec
+    (λ c. search needs)
+    (λ c κs. search needs)
+    (λ c. search needs)
+    returns
+    (λ c κs. search needs)
+    (λ c κs. search needs)
+    (λ c κs. search needs)
+    add-t17
+    returns-2
+    returns-3)
