@@ -63,7 +63,8 @@ enum {
     LOBSTERCREEL_BAD_LINE = 8,     /* in a list of steps: a kind that there is not, or a step that breaks off */
     LOBSTERCREEL_LONG_SHEET = 9,   /* what a sheet of more than 60,000 bytes prints */
     LOBSTERCREEL_NO_RECORD = 10,   /* answering with no recorded proposal */
-    LOBSTERCREEL_OTHER_VIEW = 11   /* answering a recorded proposal whose view is not the local view */
+    LOBSTERCREEL_OTHER_VIEW = 11,  /* answering a recorded proposal whose view is not the local view */
+    LOBSTERCREEL_CUT_TOO_LATE = 12 /* the step would send no more messages than those after which it is cut */
 };
 
 /* Writes the image of the fresh system of n units. 0; or 2 for an n outside 1 to 8, and then the image is that of a system of zero
@@ -82,10 +83,17 @@ uint8_t lobstercreel_respond(uint8_t *image, size_t length, uint8_t p, uint8_t q
 /* Unit p stops for good. */
 uint8_t lobstercreel_crash(uint8_t *image, size_t length, uint8_t p);
 
+/* The same, cut after their first k messages, in rising order of the units they go to: the unit's own fields change as in the whole
+ * step, those k are sent, and the unit stops. Refused with 12 where the step would not send more than k. */
+uint8_t lobstercreel_report_cut(uint8_t *image, size_t length, uint8_t p, uint8_t view, uint8_t k);
+uint8_t lobstercreel_receive_cut(uint8_t *image, size_t length, uint8_t q, uint8_t p, uint8_t k);
+uint8_t lobstercreel_respond_cut(uint8_t *image, size_t length, uint8_t p, uint8_t q, uint8_t k);
+
 /* The kinds of step in a list, each with its two operands: unit and view, from and at, unit and to, unit and a byte that means
- * nothing. */
+ * nothing. The fourth byte is the count after which the step is cut, or LOBSTERCREEL_WHOLE. */
 enum { LOBSTERCREEL_REPORT, LOBSTERCREEL_RECEIVE, LOBSTERCREEL_RESPOND, LOBSTERCREEL_CRASH };
-#define LOBSTERCREEL_STEP 3 /* how many bytes a step of a list has: its kind and the operands */
+#define LOBSTERCREEL_WHOLE 255
+#define LOBSTERCREEL_STEP 4 /* how many bytes a step of a list has: its kind, the operands and the count */
 
 /* Does a list of steps, one after the other, each of them refused or not, as the calls above would; the system's soundness is tested
  * once. The number of each goes into `numbers`: as many steps are done as it has places, and what lies past them stays. Answers how

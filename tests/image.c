@@ -387,7 +387,8 @@ static void damage(void) {
 /* What is no step in a list is refused with 8; a list is done as far as there are places; on what is no sound table each step is
  * refused with 1. */
 static void lists(void) {
-    static const uint8_t odd[] = {LOBSTERCREEL_CRASH, 1, 0, 4, 1, 0, 255, 1, 0, LOBSTERCREEL_CRASH, 1, 9, LOBSTERCREEL_CRASH, 2};
+    static const uint8_t whole = LOBSTERCREEL_WHOLE;
+    const uint8_t odd[] = {LOBSTERCREEL_CRASH, 1, 0, whole, 4, 1, 0, whole, 255, 1, 0, whole, LOBSTERCREEL_CRASH, 1, 9, whole, LOBSTERCREEL_CRASH, 2, 0};
     static const uint8_t told[] = {LOBSTERCREEL_DONE, LOBSTERCREEL_BAD_LINE, LOBSTERCREEL_BAD_LINE, LOBSTERCREEL_STOPPED, LOBSTERCREEL_BAD_LINE};
     static const uint8_t unsound[] = {LOBSTERCREEL_UNSOUND, LOBSTERCREEL_BAD_LINE, LOBSTERCREEL_BAD_LINE, LOBSTERCREEL_UNSOUND, LOBSTERCREEL_BAD_LINE};
     for (size_t places = 0; places <= 8; places++) {
@@ -405,6 +406,41 @@ static void lists(void) {
     expect(count == sizeof told && memcmp(numbers, unsound, sizeof told) == 0 && unchanged(), "a list on a table that is not sound");
     count = lobstercreel_steps(image, length - 1, odd, sizeof odd, numbers, sizeof told);
     expect(count == sizeof told && memcmp(numbers, unsound, sizeof told) == 0 && unchanged(), "a list on an image of another length");
+}
+
+/* Steps cut after each count, by their own calls and in a list. */
+static void cuts(void) {
+    for (int k = 0; k <= 9; k++) {
+        for (int listed = 0; listed < 2; listed++) {
+            start(5);
+            prepare();
+            const uint8_t order[] = {LOBSTERCREEL_REPORT, 1, all(5), (uint8_t)k};
+            uint8_t answer = 77;
+            if (listed) lobstercreel_steps(image, length, order, sizeof order, &answer, 1);
+            else answer = lobstercreel_report_cut(image, length, 1, all(5), (uint8_t)k);
+            if (k >= 5) {
+                refused(answer, LOBSTERCREEL_CUT_TOO_LATE, "a report cut too late");
+                continue;
+            }
+            *field(wanted, 1, LOBSTERCREEL_CRASHED) = 1;
+            *field(wanted, 1, LOBSTERCREEL_PROPOUT) = 2;
+            *field(wanted, 1, LOBSTERCREEL_PROPOSAL) = all(5);
+            for (int p = 2; p <= k; p++) put(wanted, 1, p, LOBSTERCREEL_PROPOSE, all(5), 2);
+            done(answer, "a report cut", k, listed, 0);
+        }
+    }
+    start(2);
+    put(image, 1, 2, LOBSTERCREEL_PROPOSE, all(2), 2);
+    prepare();
+    refused(lobstercreel_receive_cut(image, length, 1, 2, 0), LOBSTERCREEL_CUT_TOO_LATE, "a silent step cut");
+    set(record(image, 2, 1), LOBSTERCREEL_PROPOSED, all(2), 2);
+    prepare();
+    refused(lobstercreel_respond_cut(image, length, 2, 1, 1), LOBSTERCREEL_CUT_TOO_LATE, "an answer cut too late");
+    record(wanted, 2, 1)[0] = LOBSTERCREEL_NOTHING;
+    *field(wanted, 2, LOBSTERCREEL_NEXT) = 3;
+    *field(wanted, 2, LOBSTERCREEL_CRASHED) = 1;
+    take(wanted, 1, 2);
+    done(lobstercreel_respond_cut(image, length, 2, 1, 0), "an answer cut", 2, 1, 0);
 }
 
 /* The longest output: 59,996 empty lines after `u 8`. No line of a sheet prints more bytes than 10, and it has 60,000 at most. */
@@ -435,23 +471,31 @@ static void run(unsigned seed) {
         uint8_t view = (uint8_t)(rand() % (1 << n) | (rand() % 2 ? 1 << (p - 1) : 1));
         prepare();
         int kind = rand() % 100;
-        uint8_t *step = list + LOBSTERCREEL_STEP * (i - 2);
+        uint8_t *step = list + LOBSTERCREEL_STEP * (i - 2), cut = rand() % 60 ? LOBSTERCREEL_WHOLE : (uint8_t)(rand() % 5);
+        const char *after = "";
+        char text[16];
+        if (cut != LOBSTERCREEL_WHOLE) {
+            sprintf(text, " cut %d", cut);
+            after = text;
+        }
+        step[3] = cut;
         if (kind < 15) {
             set(step, LOBSTERCREEL_REPORT, p, view);
-            s += sprintf(s, "r %d %s\n", p, digits(view));
-            answer = lobstercreel_report(image, length, p, view);
+            s += sprintf(s, "r %d %s%s\n", p, digits(view), after);
+            answer = cut == LOBSTERCREEL_WHOLE ? lobstercreel_report(image, length, p, view) : lobstercreel_report_cut(image, length, p, view, cut);
         } else if (kind < 45) {
-            s += sprintf(s, "a %d %d\n", p, q);
+            s += sprintf(s, "a %d %d%s\n", p, q, after);
             set(step, LOBSTERCREEL_RESPOND, p, q);
-            answer = lobstercreel_respond(image, length, p, q);
+            answer = cut == LOBSTERCREEL_WHOLE ? lobstercreel_respond(image, length, p, q) : lobstercreel_respond_cut(image, length, p, q, cut);
         } else if (kind < 46) {
             s += sprintf(s, "s %d\n", p);
             set(step, LOBSTERCREEL_CRASH, p, q);
+            step[3] = LOBSTERCREEL_WHOLE;
             answer = lobstercreel_crash(image, length, p);
         } else {
-            s += sprintf(s, "t %d %d\n", q, p);
+            s += sprintf(s, "t %d %d%s\n", q, p, after);
             set(step, LOBSTERCREEL_RECEIVE, q, p);
-            answer = lobstercreel_receive(image, length, q, p);
+            answer = cut == LOBSTERCREEL_WHOLE ? lobstercreel_receive(image, length, q, p) : lobstercreel_receive_cut(image, length, q, p, cut);
         }
         if (answer != 0) expect(unchanged(), "seed %u: a refused call leaves the image", seed);
         answers[i - 2] = answer;
@@ -494,6 +538,7 @@ int main(void) {
     refusals();
     damage();
     lists();
+    cuts();
     output_room();
     for (unsigned seed = 1; seed <= SEEDS; seed++) run(seed);
     for (int i = 0; i < GUARD; i++)

@@ -14,7 +14,7 @@ enum { ROOM = 1 << 20, PAINT = 0xa5, SEEDS = 40, STEPS = 60 };
 
 static uint8_t stack[ROOM], image[LOBSTERCREEL_IMAGE], sheet[60001], out[LOBSTERCREEL_OUTPUT];
 static size_t length = sizeof image, given, room = sizeof out;
-static uint8_t first, second, list[LOBSTERCREEL_STEP * STEPS], numbers[STEPS];
+static uint8_t first, second, third, list[LOBSTERCREEL_STEP * STEPS], numbers[STEPS];
 static size_t listed;
 static volatile size_t answer;
 static ucontext_t home, there;
@@ -26,13 +26,17 @@ static void report(void) { answer = lobstercreel_report(image, length, first, se
 static void receive(void) { answer = lobstercreel_receive(image, length, first, second); }
 static void respond(void) { answer = lobstercreel_respond(image, length, first, second); }
 static void crash(void) { answer = lobstercreel_crash(image, length, first); }
+static void report_cut(void) { answer = lobstercreel_report_cut(image, length, first, second, third); }
+static void receive_cut(void) { answer = lobstercreel_receive_cut(image, length, first, second, third); }
+static void respond_cut(void) { answer = lobstercreel_respond_cut(image, length, first, second, third); }
 static void steps(void) { answer = lobstercreel_steps(image, length, list, listed, numbers, sizeof numbers); }
 static void run(void) { answer = lobstercreel_run(sheet, given, out, room); }
 
-enum { NOTHING, FRESH, REPORT, RECEIVE, RESPOND, CRASH, LIST, RUN, CALLS };
-static void (*const calls[CALLS])(void) = {nothing, fresh, report, receive, respond, crash, steps, run};
+enum { NOTHING, FRESH, REPORT, RECEIVE, RESPOND, CRASH, REPORT_CUT, RECEIVE_CUT, RESPOND_CUT, LIST, RUN, CALLS };
+static void (*const calls[CALLS])(void) = {nothing, fresh, report, receive, respond, crash, report_cut, receive_cut, respond_cut, steps, run};
 static const char *const names[CALLS] = {"", "lobstercreel_fresh", "lobstercreel_report", "lobstercreel_receive",
-                                         "lobstercreel_respond", "lobstercreel_crash", "lobstercreel_steps", "lobstercreel_run"};
+                                         "lobstercreel_respond", "lobstercreel_crash", "lobstercreel_report_cut",
+                                         "lobstercreel_receive_cut", "lobstercreel_respond_cut", "lobstercreel_steps", "lobstercreel_run"};
 static size_t most[CALLS];
 static long times[CALLS];
 
@@ -69,6 +73,14 @@ static void walk(unsigned seed) {
         first = (uint8_t)(1 + rand() % n);
         second = which == REPORT ? (uint8_t)(kept | 1 << (first - 1)) & (uint8_t)((1 << n) - 1) : (uint8_t)(1 + rand() % n);
         if (which == CRASH && rand() % 4) first = 9;
+        /* Now and then the same step, cut: on a copy, since it stops its unit. */
+        if (which != CRASH && rand() % 3 == 0) {
+            static uint8_t whole[LOBSTERCREEL_IMAGE];
+            memcpy(whole, image, sizeof whole);
+            third = (uint8_t)(rand() % 3);
+            call(which - REPORT + REPORT_CUT);
+            memcpy(image, whole, sizeof whole);
+        }
         if (rand() % 10 == 0) {
             uint8_t good = image[at];
             image[at] = kept;
@@ -80,6 +92,7 @@ static void walk(unsigned seed) {
         list[listed++] = (uint8_t)(which - REPORT);
         list[listed++] = first;
         list[listed++] = second;
+        list[listed++] = rand() % 8 ? LOBSTERCREEL_WHOLE : (uint8_t)(rand() % 4);
         given += (size_t)sprintf((char *)sheet + given, "%c %d %d\n", "??rtas"[which], first, second % 10);
     }
     call(RUN);

@@ -14,6 +14,9 @@ extern "C" {
     fn lobstercreel_receive(image: *mut u8, length: usize, q: u8, p: u8) -> u8;
     fn lobstercreel_respond(image: *mut u8, length: usize, p: u8, q: u8) -> u8;
     fn lobstercreel_crash(image: *mut u8, length: usize, p: u8) -> u8;
+    fn lobstercreel_report_cut(image: *mut u8, length: usize, p: u8, view: u8, k: u8) -> u8;
+    fn lobstercreel_receive_cut(image: *mut u8, length: usize, q: u8, p: u8, k: u8) -> u8;
+    fn lobstercreel_respond_cut(image: *mut u8, length: usize, p: u8, q: u8, k: u8) -> u8;
     fn lobstercreel_steps(
         image: *mut u8,
         length: usize,
@@ -25,7 +28,7 @@ extern "C" {
     fn lobstercreel_run(sheet: *const u8, length: usize, out: *mut u8, room: usize) -> usize;
 }
 
-/// A number of the refusal table: 1 to 7, 10 and 11.
+/// A number of the refusal table: 1 to 7, 10 to 12.
 #[derive(Clone, Copy, Debug, PartialEq, Eq)]
 pub struct Refusal(pub u8);
 
@@ -38,37 +41,74 @@ fn answer(number: u8) -> Answer {
     }
 }
 
-/// One of the four steps. Processes are numbered from 1; a view has process 1 as its lowest bit.
+/// What a step can be. Processes are numbered from 1; a view has process 1 as its lowest bit.
 #[derive(Clone, Copy, Debug, PartialEq, Eq)]
-pub enum Step {
+pub enum Action {
     Report { p: u8, view: u8 },
     Receive { q: u8, p: u8 },
     Respond { p: u8, q: u8 },
     Crash { p: u8 },
 }
 
+/// An action, whole, or cut after its first messages: then its process stops.
+#[derive(Clone, Copy, Debug, PartialEq, Eq)]
+pub struct Step {
+    pub action: Action,
+    pub cut: Option<u8>,
+}
+
+impl From<Action> for Step {
+    fn from(action: Action) -> Step {
+        Step { action, cut: None }
+    }
+}
+
+impl Action {
+    /// The step that is cut after its first k messages.
+    pub fn cut(self, k: u8) -> Step {
+        Step { action: self, cut: Some(k) }
+    }
+}
+
 /// Does a step on bytes that are to be an image; any others are refused with 1.
-pub fn step(image: &mut [u8], step: Step) -> Answer {
+pub fn step(image: &mut [u8], step: impl Into<Step>) -> Answer {
+    let Step { action, cut } = step.into();
     let (at, length) = (image.as_mut_ptr(), image.len());
     // SAFETY: the pointer and the length are those of one slice, which is lent for the call alone.
     answer(unsafe {
-        match step {
-            Step::Report { p, view } => lobstercreel_report(at, length, p, view),
-            Step::Receive { q, p } => lobstercreel_receive(at, length, q, p),
-            Step::Respond { p, q } => lobstercreel_respond(at, length, p, q),
-            Step::Crash { p } => lobstercreel_crash(at, length, p),
+        match (action, cut) {
+            (Action::Report { p, view }, None) => lobstercreel_report(at, length, p, view),
+            (Action::Receive { q, p }, None) => lobstercreel_receive(at, length, q, p),
+            (Action::Respond { p, q }, None) => lobstercreel_respond(at, length, p, q),
+            (Action::Crash { p }, None) => lobstercreel_crash(at, length, p),
+            (Action::Report { p, view }, Some(k)) => {
+                lobstercreel_report_cut(at, length, p, view, k)
+            }
+            (Action::Receive { q, p }, Some(k)) => lobstercreel_receive_cut(at, length, q, p, k),
+            (Action::Respond { p, q }, Some(k)) => lobstercreel_respond_cut(at, length, p, q, k),
+            // There is no call for it, but it may stand in a list.
+            (Action::Crash { .. }, Some(_)) => {
+                let mut number = 0;
+                steps_into(image, &Step { action, cut }.bytes(), std::slice::from_mut(&mut number));
+                number
+            }
         }
     })
 }
 
+/// In a list of steps, what stands for a step that is not cut.
+pub const WHOLE: u8 = 255;
+
 impl Step {
-    /// The step as it stands in a list.
-    pub fn bytes(self) -> [u8; 3] {
-        match self {
-            Step::Report { p, view } => [0, p, view],
-            Step::Receive { q, p } => [1, q, p],
-            Step::Respond { p, q } => [2, p, q],
-            Step::Crash { p } => [3, p, 0],
+    /// The step as it stands in a list. No step sends more than 8 messages, so that a count of 255, for
+    /// which a list has no byte, is as good as one of 254.
+    pub fn bytes(self) -> [u8; 4] {
+        let cut = self.cut.map_or(WHOLE, |k| k.min(WHOLE - 1));
+        match self.action {
+            Action::Report { p, view } => [0, p, view, cut],
+            Action::Receive { q, p } => [1, q, p, cut],
+            Action::Respond { p, q } => [2, p, q, cut],
+            Action::Crash { p } => [3, p, 0, cut],
         }
     }
 }
@@ -138,7 +178,7 @@ impl System {
         &self.image
     }
 
-    pub fn perform(&mut self, o: Step) -> Answer {
+    pub fn perform(&mut self, o: impl Into<Step>) -> Answer {
         step(&mut self.image, o)
     }
 

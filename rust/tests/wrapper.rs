@@ -2,7 +2,8 @@
 //! entry. The bytes of the images are those of docs/IMAGE.md.
 
 use lobstercreel::{
-    fresh, run_sheet, run_sheet_into, step, steps_into, Refusal, Step, System, IMAGE, OUTPUT,
+    fresh, run_sheet, run_sheet_into, step, steps_into, Action, Refusal, Step, System, IMAGE,
+    OUTPUT, WHOLE,
 };
 
 /// A fresh image of n processes.
@@ -30,7 +31,7 @@ fn only_an_image_of_its_length() {
         let before = vec![7; length];
         let mut bytes = before.clone();
         assert_eq!(fresh(&mut bytes, 2), Err(Refusal(1)), "{length}");
-        assert_eq!(step(&mut bytes, Step::Crash { p: 1 }), Err(Refusal(1)), "{length}");
+        assert_eq!(step(&mut bytes, Action::Crash { p: 1 }), Err(Refusal(1)), "{length}");
         assert_eq!(bytes, before);
     }
 }
@@ -66,7 +67,7 @@ fn entries() {
             bytes[process + 62] = 1;
             send(&mut bytes, q, p, [COMMIT, both(p, q), i]);
             let mut system = System::from_image(bytes);
-            assert_eq!(system.perform(Step::Receive { q, p }), Ok(()));
+            assert_eq!(system.perform(Action::Receive { q, p }), Ok(()));
             for (other, j) in (0..=9).flat_map(|other| (0..=34).map(move |j| (other, j))) {
                 let first = j == 1 && (1..=8).contains(&other);
                 let wanted = match (other, j) {
@@ -104,10 +105,10 @@ fn stray_bytes() {
         bytes[channel + 24] = if q <= 2 && p <= 2 { 0 } else { 255 };
     }
     let mut system = System::from_image(bytes);
-    assert_eq!(system.perform(Step::Receive { q: 1, p: 2 }), Err(Refusal(5)));
+    assert_eq!(system.perform(Action::Receive { q: 1, p: 2 }), Err(Refusal(5)));
     assert_eq!(*system.image(), bytes);
-    assert_eq!(system.perform(Step::Report { p: 1, view: 3 }), Ok(()));
-    assert_eq!(system.perform(Step::Receive { q: 1, p: 2 }), Ok(()));
+    assert_eq!(system.perform(Action::Report { p: 1, view: 3 }), Ok(()));
+    assert_eq!(system.perform(Action::Receive { q: 1, p: 2 }), Ok(()));
     assert_eq!(system.entry(3, 1), None);
 }
 
@@ -116,15 +117,15 @@ fn stray_bytes() {
 fn arguments() {
     let mut system = System::fresh(3).unwrap();
     let view = 0b110;
-    assert_eq!(system.perform(Step::Report { p: 2, view }), Ok(()));
-    assert_eq!(system.perform(Step::Receive { q: 3, p: 2 }), Err(Refusal(5)));
-    assert_eq!(system.perform(Step::Receive { q: 2, p: 3 }), Ok(()));
-    assert_eq!(system.perform(Step::Report { p: 3, view }), Ok(()));
-    assert_eq!(system.perform(Step::Respond { p: 2, q: 3 }), Err(Refusal(10)));
-    assert_eq!(system.perform(Step::Respond { p: 3, q: 2 }), Ok(()));
-    assert_eq!(system.perform(Step::Crash { p: 2 }), Ok(()));
-    assert_eq!(system.perform(Step::Report { p: 2, view }), Err(Refusal(3)));
-    assert_eq!(system.perform(Step::Report { p: 3, view }), Ok(()));
+    assert_eq!(system.perform(Action::Report { p: 2, view }), Ok(()));
+    assert_eq!(system.perform(Action::Receive { q: 3, p: 2 }), Err(Refusal(5)));
+    assert_eq!(system.perform(Action::Receive { q: 2, p: 3 }), Ok(()));
+    assert_eq!(system.perform(Action::Report { p: 3, view }), Ok(()));
+    assert_eq!(system.perform(Action::Respond { p: 2, q: 3 }), Err(Refusal(10)));
+    assert_eq!(system.perform(Action::Respond { p: 3, q: 2 }), Ok(()));
+    assert_eq!(system.perform(Action::Crash { p: 2 }), Ok(()));
+    assert_eq!(system.perform(Action::Report { p: 2, view }), Err(Refusal(3)));
+    assert_eq!(system.perform(Action::Report { p: 3, view }), Ok(()));
 }
 
 /// The numbers of the refusal table, and the image that stays.
@@ -147,17 +148,17 @@ fn refusals() {
     let mut other = image(2);
     other[1 + 1] = 1;
     other[1 + 6 + 3..][..3].copy_from_slice(&[1, 3, 2]);
-    let report = Step::Report { p: 1, view: 3 };
+    let report = Action::Report { p: 1, view: 3 };
     let cases = [
         (unsound, report, 1),
-        (image(2), Step::Report { p: 3, view: 3 }, 2),
+        (image(2), Action::Report { p: 3, view: 3 }, 2),
         (stopped, report, 3),
-        (image(2), Step::Report { p: 1, view: 2 }, 4),
-        (image(2), Step::Receive { q: 1, p: 2 }, 5),
+        (image(2), Action::Report { p: 1, view: 2 }, 4),
+        (image(2), Action::Receive { q: 1, p: 2 }, 5),
         (last, report, 6),
         (full, report, 7),
-        (image(2), Step::Respond { p: 1, q: 2 }, 10),
-        (other, Step::Respond { p: 1, q: 2 }, 11),
+        (image(2), Action::Respond { p: 1, q: 2 }, 10),
+        (other, Action::Respond { p: 1, q: 2 }, 11),
     ];
     for (bytes, refused, number) in cases {
         let mut system = System::from_image(bytes);
@@ -171,14 +172,15 @@ fn refusals() {
 #[test]
 fn lists() {
     let list = [
-        Step::Report { p: 2, view: 0b110 },
-        Step::Receive { q: 3, p: 2 },
-        Step::Receive { q: 2, p: 3 },
-        Step::Report { p: 3, view: 0b110 },
-        Step::Respond { p: 3, q: 2 },
-        Step::Crash { p: 2 },
-        Step::Crash { p: 2 },
-    ];
+        Action::Report { p: 2, view: 0b110 },
+        Action::Receive { q: 3, p: 2 },
+        Action::Receive { q: 2, p: 3 },
+        Action::Report { p: 3, view: 0b110 },
+        Action::Respond { p: 3, q: 2 },
+        Action::Crash { p: 2 },
+        Action::Crash { p: 2 },
+    ]
+    .map(Step::from);
     let (mut one_by_one, mut at_once) = (System::fresh(3).unwrap(), System::fresh(3).unwrap());
     let wanted: Vec<_> = list.iter().map(|&step| one_by_one.perform(step)).collect();
     let five = Err(Refusal(5));
@@ -189,16 +191,57 @@ fn lists() {
 
     let mut bytes = image(2);
     let mut numbers = [77; 6];
-    assert_eq!(steps_into(&mut bytes, &[3, 1, 0, 4, 1, 0, 3, 1, 9, 3, 2], &mut numbers), 4);
+    assert_eq!(
+        steps_into(&mut bytes, &[3, 1, 0, 255, 4, 1, 0, 255, 3, 1, 9, 255, 3, 2, 0], &mut numbers),
+        4
+    );
     assert_eq!(numbers, [0, 8, 3, 8, 77, 77]);
-    assert_eq!(steps_into(&mut bytes, &[3, 2, 0, 3, 2, 0], &mut numbers[..1]), 1);
+    assert_eq!(steps_into(&mut bytes, &[3, 2, 0, 255, 3, 2, 0, 255], &mut numbers[..1]), 1);
     assert_eq!(numbers, [0, 8, 3, 8, 77, 77]);
-    assert_eq!(steps_into(&mut bytes, &[3, 2, 0, 255], &mut numbers), 2);
+    assert_eq!(steps_into(&mut bytes, &[3, 2, 0, 255, 255], &mut numbers), 2);
     assert_eq!(numbers, [3, 8, 3, 8, 77, 77]);
     assert_eq!(steps_into(&mut bytes, &[], &mut numbers), 0);
-    assert_eq!(steps_into(&mut bytes, &[3, 2, 0], &mut []), 0);
-    assert_eq!(steps_into(&mut bytes[1..], &[3, 2, 0, 7, 7, 7], &mut numbers), 2);
+    assert_eq!(steps_into(&mut bytes, &[3, 2, 0, 255], &mut []), 0);
+    assert_eq!(steps_into(&mut bytes[1..], &[3, 2, 0, 255, 7, 7, 7, 7], &mut numbers), 2);
     assert_eq!(numbers, [1, 8, 3, 8, 77, 77]);
+}
+
+/// A step cut after k messages: those are placed, in rising order, and the process stops.
+#[test]
+fn cuts() {
+    for k in 0..=9 {
+        let mut system = System::fresh(5).unwrap();
+        let report = Action::Report { p: 1, view: 0b11111 };
+        if k >= 5 {
+            assert_eq!(system.perform(report.cut(k)), Err(Refusal(12)), "{k}");
+            continue;
+        }
+        assert_eq!(system.perform(report.cut(k)), Ok(()), "{k}");
+        assert_eq!(system.perform(report), Err(Refusal(3)), "{k}");
+        for p in 2..=5 {
+            let taken = system.perform(Action::Receive { q: 1, p });
+            assert_eq!(taken, if p <= k { Ok(()) } else { Err(Refusal(5)) }, "{p} of {k}");
+        }
+        // A cut answer is given and not sent.
+        if k >= 2 {
+            assert_eq!(system.perform(Action::Respond { p: 2, q: 1 }.cut(1)), Err(Refusal(12)));
+            assert_eq!(system.perform(Action::Respond { p: 2, q: 1 }.cut(0)), Ok(()));
+            assert_eq!(system.perform(Action::Crash { p: 2 }), Err(Refusal(3)));
+        }
+    }
+    let mut system = System::fresh(1).unwrap();
+    for silent in [Action::Crash { p: 1 }, Action::Receive { q: 1, p: 1 }] {
+        let number = if silent == (Action::Crash { p: 1 }) { 12 } else { 5 };
+        assert_eq!(system.perform(silent.cut(0)), Err(Refusal(number)));
+    }
+    // 255 is a count like any other above 8, in a list too.
+    let (mut one, mut listed) = (System::fresh(1).unwrap(), System::fresh(1).unwrap());
+    for action in [Action::Report { p: 1, view: 1 }, Action::Crash { p: 1 }] {
+        assert_eq!(one.perform(action.cut(WHOLE)), Err(Refusal(12)));
+        assert_eq!(listed.perform_all(&[action.cut(WHOLE)]), [Err(Refusal(12))]);
+    }
+    assert_eq!(one, System::fresh(1).unwrap());
+    assert_eq!(listed, one);
 }
 
 /// The longest output is whole; a small buffer gets its beginning.

@@ -17,8 +17,7 @@ use Rattle.system.specs.declared.System.{System}
 use Rattle.system.specs.System.{variablesAt}
 use Rattle.system.specs.Fresh.{freshSystem}
 use Rattle.sound.specs.Sound.{soundMessage}
-use Rattle.plan.specs.declared.Step.{Step}
-use Rattle.step.specs.Step.{ran}
+use Rattle.step.specs.Step.{Event, ran}
 use Rattle.step.proofs.Soundness.{Sound, sound-facts, retry-facts, acc-facts}
 use Rattle.step.proofs.Cases.{waitingAt}
 use Rattle.step.proofs.Beginning.{run-sound}
@@ -27,18 +26,18 @@ use Rattle.agreement.proofs.Invariant.{Honest, Reached}
 use Rattle.agreement.proofs.Beginning.{fresh-reached}
 use Rattle.agreement.proofs.Steps.{run-after}
 
-module _ (n : ℕ) (size : isOneOf 8 n ≡ true) (os : List Step) where
+module _ (n : ℕ) (size : isOneOf 8 n ≡ true) (es : List Event) where
   -- the system reached
   abbrev s : System
-  s = ran (freshSystem n) os
+  s = ran (freshSystem n) es
 
   sound : Sound s
-  sound = sound-facts s (run-sound n size os)
+  sound = sound-facts s (run-sound n size es)
 
-  reached : Reached s (acceptedIn (freshSystem n) os)
-  reached = run-after (freshSystem n) [] os (fresh-reached n) .reached
+  reached : Reached s (acceptedIn (freshSystem n) es)
+  reached = run-after (freshSystem n) [] es (fresh-reached n) .reached
 
-  module _ (q p : ℕ) (known-q : isOneOf (ran (freshSystem n) os .n) q ≡ true) (known-p : isOneOf (ran (freshSystem n) os .n) p ≡ true) where
+  module _ (q p : ℕ) (known-q : isOneOf (ran (freshSystem n) es .n) q ≡ true) (known-p : isOneOf (ran (freshSystem n) es .n) p ≡ true) where
     abbrev x : Variables
     x = variablesAt s p
 
@@ -57,19 +56,19 @@ module _ (n : ℕ) (size : isOneOf 8 n ≡ true) (os : List Step) where
 
     -- Document 01, of a Retry acted on: "The last proposed view is not touched; after any steps from a fresh table it equals the local
     -- view at that moment." The Retry is the oldest message from q to p, its old index is PropOut, and p is the least of its local view.
-    pub retry-proposes-view : (old new : GroupIndex) (rest : List Message) → waitingAt (ran (freshSystem n) os) q p ≡ Retry old new ∷ rest
-        → variablesAt (ran (freshSystem n) os) p .propout .0 ≡ old .0
-        → leastOf (variablesAt (ran (freshSystem n) os) p .view) .0 ≡ p
-        → variablesAt (ran (freshSystem n) os) p .proposal ≡ variablesAt (ran (freshSystem n) os) p .view
+    pub retry-proposes-view : (old new : GroupIndex) (rest : List Message) → waitingAt (ran (freshSystem n) es) q p ≡ Retry old new ∷ rest
+        → variablesAt (ran (freshSystem n) es) p .propout .0 ≡ old .0
+        → leastOf (variablesAt (ran (freshSystem n) es) p .view) .0 ≡ p
+        → variablesAt (ran (freshSystem n) es) p .proposal ≡ variablesAt (ran (freshSystem n) es) p .view
     retry-proposes-view old new rest first present least =
         let f = retry-facts (s .n) q p old new (sound-first (Retry old new) rest first) in
         reached .own p .leads (some-proposed (λ one. omega (arith, f))) least
 
     -- Document 01's departure is never met by steps from a fresh system: while the last proposed view of p is empty, no Acc waits for it
-    pub departure-not-met : (i : GroupIndex) (rest : List Message) → waitingAt (ran (freshSystem n) os) q p ≡ Acc i ∷ rest
-        → variablesAt (ran (freshSystem n) os) p .proposal ≡ 0
+    pub departure-not-met : (i : GroupIndex) (rest : List Message) → waitingAt (ran (freshSystem n) es) q p ≡ Acc i ∷ rest
+        → variablesAt (ran (freshSystem n) es) p .proposal ≡ 0
         → ⊥
     departure-not-met i rest first none =
-        let answered = subst (Each (Honest (acceptedIn (freshSystem n) os) (variablesAt s) q p)) first (reached .messages q p) .0 in
+        let answered = subst (Each (Honest (acceptedIn (freshSystem n) es) (variablesAt s) q p)) first (reached .messages q p) .0 in
         let f = acc-facts (s .n) q p i (sound-first (Acc i) rest first) in
         by-number (x .propout .0) 1 (λ one. omega (arith, answered .bound)) (λ later. some-proposed later none)

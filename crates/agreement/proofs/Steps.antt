@@ -1,4 +1,4 @@
--- Each transition, and so each step and each list of steps, keeps what is so of every system that steps reach.
+-- Each transition, and so each step, whole or cut, and each list of events, keeps what is so of every system that events reach.
 use Prim.Native.Nat.{ℕ, _≤_, _<_, _+_}
 use mathlib.Core.Path.{_≡_, refl, sym, _∙_, subst}
 use mathlib.Core.Bool.{Bool, true, false}
@@ -22,22 +22,23 @@ use Rattle.system.specs.declared.Outcome.{Outcome}
 use Rattle.system.specs.Process.{pendingAt}
 use Rattle.system.specs.System.{processAt, variablesAt, refused}
 use Rattle.sound.specs.Sound.{soundSystem}
+use Rattle.plan.specs.declared.Action.{Action}
+use Rattle.plan.specs.declared.Action.the-variants.{Report, Receive, Respond, Crash}
 use Rattle.plan.specs.declared.Step.{Step}
-use Rattle.plan.specs.declared.Step.the-variants.{Report, Receive, Respond, Crash}
 use Rattle.plan.specs.Fields.{withNext}
 use Rattle.plan.specs.Plan.{assigning, recording}
-use Rattle.step.specs.Step.{stepped, ran}
+use Rattle.step.specs.Step.{stepped, Event, does, happened, ran}
 use Rattle.step.proofs.Cases.{Taken, afterwards, Marking, present, stale, Transition, proposes, follows, records, reproposes, ignores, marks, commits, enters, accepts, declines, crashes}
 use Rattle.step.proofs.Effects.{all-left, taken-left}
 use Rattle.step.proofs.Inversion.{by-outcome}
 use Rattle.step.proofs.Outcomes.{unsound-is-1}
-use Rattle.agreement.specs.Accepted.{Acceptance, accepted, acceptedFrom, acceptedBy, acceptedIn}
+use Rattle.agreement.specs.Accepted.{Acceptance, accepted, acceptedFrom, acceptedAs, acceptedBy, acceptedIn}
 use Rattle.agreement.proofs.Acceptances.{Same, still, newest, last-or-before}
 use Rattle.agreement.proofs.Invariant.{Proposed, Answered, Honest, Recorded, Own, Reached, Later, later-equal, later-risen, answered-later}
 use Rattle.agreement.proofs.Changes.{Accepting, accepting-none, HonestChange, recording-honest, since-same, since-then, at-actor, later-all, After, effect-after, quiet-after}
 
--- what a step accepts where it is done
-abbrev pub acceptances : System → Step → List Acceptance
+-- what an action accepts where it is done
+abbrev pub acceptances : System → Action → List Acceptance
 acceptances s (Report p v) = []
 acceptances s (Receive q p) = []
 acceptances s (Respond p q) = acceptedFrom (p .0) (variablesAt s (p .0)) (pendingAt (processAt s (p .0)) (q .0))
@@ -121,7 +122,7 @@ module _ {s t : System} {acc : List Acceptance} (r : Reached s acc) where
   unaccepting : After s t acc → After s t (acc ++ [])
   unaccepting a = rw append-nil a
 
-  pub transition-after : (o : Step) → Transition s t o → After s t (acc ++ acceptances s o)
+  pub transition-after : (o : Action) → Transition s t o → After s t (acc ++ acceptances s o)
   unfolding afterwards
   transition-after (Report p v) (proposes k) =
       let i = variablesAt s (p .0) .propout .0 + 1 in
@@ -189,33 +190,38 @@ unfolding pick
 either-way true = refl
 either-way false = refl
 
-accepted-then : (s : System) (o : Step) → acceptedBy s o ≡ pick (eqb (stepped s o .refusal) 0) (acceptances s o) []
-unfolding acceptedBy
-accepted-then s (Report p v) = either-way _
-accepted-then s (Receive q p) = either-way _
-accepted-then s (Respond p q) = refl
-accepted-then s (Crash p) = either-way _
+accepted-then : (s : System) (o : Action) (k : ℕ) → acceptedAs s o k ≡ pick (eqb k 0) (acceptances s o) []
+unfolding acceptedAs
+accepted-then s (Report p v) k = either-way _
+accepted-then s (Receive q p) k = either-way _
+accepted-then s (Respond p q) k = refl
+accepted-then s (Crash p) k = either-way _
 
-pub step-after : (s : System) (acc : List Acceptance) (o : Step) → Reached s acc → After s (stepped s o .system) (acc ++ acceptedBy s o)
+step-after : (s : System) (acc : List Acceptance) (o : Step) → Reached s acc
+    → After s (stepped s o .system) (acc ++ acceptedAs s (o .action) (stepped s o .refusal))
 unfolding pick
 step-after s acc o r =
-    rw (accepted-then s o)
+    rw (accepted-then s (o .action) (stepped s o .refusal))
     (by-test (soundSystem s)
-    (λ sound. by-outcome Then s o (record { shape = r .shape; sound = sound }) (λ t k. transition-after r o k) same)
+    (λ sound. by-outcome Then s o (record { shape = r .shape; sound = sound }) (λ t k. transition-after r (o .action) k) same)
     (λ unsound. subst Then (sym (unsound-is-1 s o unsound)) (same 1 (λ e. omega arith))))
   where
     Then : Outcome → Type 0
-    Then a = After s (a .system) (acc ++ pick (eqb (a .refusal) 0) (acceptances s o) [])
+    Then a = After s (a .system) (acc ++ pick (eqb (a .refusal) 0) (acceptances s (o .action)) [])
 
     same : (k : ℕ) → (k ≡ 0 → ⊥) → Then (refused k s)
     same k n = rw (ne-eqb k 0 n, append-nil) (record { reached = r; since = since-same s })
 
--- ---- a list of steps
-pub run-after : (s : System) (acc : List Acceptance) (os : List Step) → Reached s acc → After s (ran s os) (acc ++ acceptedIn s os)
+pub event-after : (s : System) (acc : List Acceptance) (e : Event) → Reached s acc → After s (happened s e .system) (acc ++ acceptedBy s e)
+unfolding happened acceptedBy
+event-after s acc (does o) r = step-after s acc o r
+
+-- ---- a list of events
+pub run-after : (s : System) (acc : List Acceptance) (es : List Event) → Reached s acc → After s (ran s es) (acc ++ acceptedIn s es)
 unfolding ran acceptedIn
 run-after s acc [] r = rw append-nil (record { reached = r; since = since-same s })
-run-after s acc (o ∷ os) r =
-    let first = step-after s acc o r in
-    let rest = run-after (stepped s o .system) (acc ++ acceptedBy s o) os (first .reached) in
-    rw (← append-assoc acc (acceptedBy s o) (acceptedIn (stepped s o .system) os))
+run-after s acc (e ∷ es) r =
+    let first = event-after s acc e r in
+    let rest = run-after (happened s e .system) (acc ++ acceptedBy s e) es (first .reached) in
+    rw (← append-assoc acc (acceptedBy s e) (acceptedIn (happened s e .system) es))
     (record { reached = rest .reached; since = since-then (first .since) (rest .since) })

@@ -1,4 +1,4 @@
--- Demand 3: for a fresh system of any size and for every list of steps, refused ones included.
+-- Demand 3: for a fresh system of any size and for every list of steps, whole or cut, refused ones included.
 use Prim.Native.Nat.{ℕ, zero, suc, _≤_, _<_}
 use mathlib.Core.Path.{_≡_, refl, sym, _∙_, ap, subst}
 use mathlib.Core.Bool.{true}
@@ -17,8 +17,7 @@ use Rattle.system.specs.declared.Process.{Process}
 use Rattle.system.specs.declared.System.{System}
 use Rattle.system.specs.Process.{entryAt, noEntries}
 use Rattle.system.specs.System.{noProcess, processAt}
-use Rattle.plan.specs.declared.Step.{Step}
-use Rattle.step.specs.Step.{stepped, ran}
+use Rattle.step.specs.Step.{Event, happened, ran}
 use Rattle.agreement.specs.Accepted.{Acceptance, acceptedIn}
 use Rattle.agreement.specs.Book.{entryIn, Agreement, Book, bookEntry, openedBook, fedAll}
 use Rattle.agreement.specs.Demand.{start, Demand}
@@ -57,18 +56,18 @@ opened-long s acc r =
     }
 
 -- ---- from a system that is empty past index 1
-module _ (s : System) (beginning : Reached s []) (empty : (p i : ℕ) → 2 ≤ i → entryIn s p i ≡ 0) (os : List Step) where
+module _ (s : System) (beginning : Reached s []) (empty : (p i : ℕ) → 2 ≤ i → entryIn s p i ≡ 0) (es : List Event) where
   abbrev t : System
-  t = ran s os
+  t = ran s es
 
   abbrev acc : List Acceptance
-  acc = acceptedIn s os
+  acc = acceptedIn s es
 
   reached : Reached t acc
-  reached = run-after s [] os beginning .reached
+  reached = run-after s [] es beginning .reached
 
   first-same : (p i : ℕ) → i < 2 → entryIn t p i ≡ entryIn s p i
-  first-same = run-after s [] os beginning .since .first
+  first-same = run-after s [] es beginning .since .first
 
   opened-in-book : (p i : ℕ) → i < 2 → InBook t acc reached (openedBook s) p i
   opened-in-book p i l = opened-entry s p i ∙ sym (first-same p i l)
@@ -146,21 +145,21 @@ module _ (s : System) (beginning : Reached s []) (empty : (p i : ℕ) → 2 ≤ 
       early (suc (suc j)) l a b = absurd (omega arith)
 
 -- ---- what is written stays
-ran-append : (s : System) (first rest : List Step) → ran s (first ++ rest) ≡ ran (ran s first) rest
+ran-append : (s : System) (first rest : List Event) → ran s (first ++ rest) ≡ ran (ran s first) rest
 unfolding ran
 ran-append s [] rest = refl
-ran-append s (o ∷ first) rest = ran-append (stepped s o .system) first rest
+ran-append s (e ∷ first) rest = ran-append (happened s e .system) first rest
 
-pub demand-3 : (n : ℕ) (os : List Step) → Demand n os
-demand-3 n os =
+pub demand-3 : (n : ℕ) (es : List Event) → Demand n es
+demand-3 n es =
     record {
-      agreements = agreements (start n) (start-reached n) (start-empty n) os;
-      none-refused = made-not-refused (acceptedIn (start n) os) (openedBook (start n)) _;
-      book-is = book-is (start n) (start-reached n) (start-empty n) os;
+      agreements = agreements (start n) (start-reached n) (start-empty n) es;
+      none-refused = made-not-refused (acceptedIn (start n) es) (openedBook (start n)) _;
+      book-is = book-is (start n) (start-reached n) (start-empty n) es;
       kept = λ first rest e p i written.
-          subst (λ (l : List Step). entryIn (ran (start n) l) p i ≡ entryIn (ran (start n) first) p i) e
+          subst (λ (l : List Event). entryIn (ran (start n) l) p i ≡ entryIn (ran (start n) first) p i) e
           (ap (λ (x : System). entryIn x p i) (ran-append (start n) first rest)
           ∙ run-after (ran (start n) first) (acceptedIn (start n) first) rest (run-after (start n) [] first (start-reached n) .reached) .since .written p i
           (eqb-false (entryIn (ran (start n) first) p i) 0 (not-true _ written)));
-      consistent = consistent (start n) (start-reached n) (start-empty n) os (start-first n);
+      consistent = consistent (start n) (start-reached n) (start-empty n) es (start-first n);
     }

@@ -1,4 +1,4 @@
--- Who has accepted what, told from the list of steps. Document 01: "Otherwise Next becomes that position + 1 and Acc(that
+-- Who has accepted what, told from the list of events. Document 01: "Otherwise Next becomes that position + 1 and Acc(that
 -- position) goes to q; by this answer, done in the run, and by nothing else, p has accepted the recorded view at that position."
 use Prim.Native.Nat.{ℕ}
 use mathlib.Core.Bool.{Bool, false, _&&_, _||_}
@@ -11,9 +11,9 @@ use Rattle.system.specs.declared.Variables.{Variables}
 use Rattle.system.specs.declared.System.{System}
 use Rattle.system.specs.Process.{pendingAt}
 use Rattle.system.specs.System.{processAt, variablesAt}
-use Rattle.plan.specs.declared.Step.{Step}
-use Rattle.plan.specs.declared.Step.the-variants.{Report, Receive, Respond, Crash}
-use Rattle.step.specs.Step.{stepped}
+use Rattle.plan.specs.declared.Action.{Action}
+use Rattle.plan.specs.declared.Action.the-variants.{Report, Receive, Respond, Crash}
+use Rattle.step.specs.Step.{stepped, Event, does, happened}
 
 pub record Acceptance : Type 0 where
   pub process : ℕ
@@ -25,19 +25,23 @@ unfoldable pub acceptedFrom : ℕ → Variables → Pending → List Acceptance
 acceptedFrom p x Nothing = []
 acceptedFrom p x (Proposal v i) = pick (ltb (i .0) (x .next .0)) [] (record { process = p; view = v; index = i .0 } ∷ [])
 
--- an answer done, and nothing else
-unfoldable pub acceptedBy : System → Step → List Acceptance
-acceptedBy s (Report p v) = []
-acceptedBy s (Receive q p) = []
-acceptedBy s (Respond p q) =
-    pick (eqb (stepped s (Respond p q) .refusal) 0)
+-- an action whose step gives the number k: an answer done, and nothing else
+unfoldable pub acceptedAs : System → Action → ℕ → List Acceptance
+acceptedAs s (Report p v) k = []
+acceptedAs s (Receive q p) k = []
+acceptedAs s (Respond p q) k =
+    pick (eqb k 0)
     (acceptedFrom (p .0) (variablesAt s (p .0)) (pendingAt (processAt s (p .0)) (q .0)))
     []
-acceptedBy s (Crash p) = []
+acceptedAs s (Crash p) k = []
 
-unfoldable pub acceptedIn : System → List Step → List Acceptance
+-- a step, whole or cut: "The unit's own fields change as in the full step", so that a cut answer accepts too
+unfoldable pub acceptedBy : System → Event → List Acceptance
+acceptedBy s (does o) = acceptedAs s (o .action) (stepped s o .refusal)
+
+unfoldable pub acceptedIn : System → List Event → List Acceptance
 acceptedIn s [] = []
-acceptedIn s (o ∷ os) = acceptedBy s o ++ acceptedIn (stepped s o .system) os
+acceptedIn s (e ∷ es) = acceptedBy s e ++ acceptedIn (happened s e .system) es
 
 abbrev pub isThis : Acceptance → ℕ → ℕ → ℕ → Bool
 isThis a u v i = eqb (a .process) u && eqb (a .view) v && eqb (a .index) i

@@ -8,8 +8,7 @@ use Rattle.view.specs.Logic.{pick}
 use Rattle.system.specs.declared.System.{System}
 use Rattle.system.specs.declared.Outcome.{Outcome}
 use Rattle.system.specs.Fresh.{freshOf}
-use Rattle.plan.specs.declared.Step.{Step}
-use Rattle.step.specs.Step.{stepped, ran}
+use Rattle.step.specs.Step.{stepped, Event, happened, ran}
 use Rattle.image.specs.Image.{imageWidth, systemIn}
 use Rattle.engine.specs.declared.Order.{Order}
 use Rattle.engine.specs.declared.Order.the-variants.{Unknown, Do}
@@ -20,23 +19,23 @@ use Rattle.agreement.proofs.Theorem.{demand-3}
 use Rattle.calls.specs.Calls.{stepsAmong, Called, nothing, step, steps, CalledRun, EveryRun}
 
 -- a list of orders is the list of its steps
-orders-ran : (s : System) (os : List Order) (rest : List Step) → ran (systemAfter s os) rest ≡ ran s (stepsAmong os ++ rest)
-unfolding systemAfter stepsAmong obeyed ran
+orders-ran : (s : System) (os : List Order) (rest : List Event) → ran (systemAfter s os) rest ≡ ran s (stepsAmong os ++ rest)
+unfolding systemAfter stepsAmong obeyed happened ran
 orders-ran s [] rest = refl
 orders-ran s (Unknown ∷ os) rest = orders-ran s os rest
 orders-ran s (Do o ∷ os) rest = orders-ran (stepped s o .system) os rest
 
-called-ran : {b c : List ℕ} {os : List Step} → Called b os c → systemIn c ≡ ran (systemIn b) os
-unfolding ran
+called-ran : {b c : List ℕ} {es : List Event} → Called b es c → systemIn c ≡ ran (systemIn b) es
+unfolding happened ran
 called-ran nothing = refl
-called-ran (step {os} gives rest) = called-ran rest ∙ ap (λ (x : Outcome). ran (x .system) os) (gives .outcome)
-called-ran (steps {b} {list} {m} {os} performs rest) =
-    called-ran rest ∙ ap (λ (x : System). ran x os) (performs .system) ∙ orders-ran (systemIn b) (ordersIn (length m) list) os
+called-ran (step {es} gives rest) = called-ran rest ∙ ap (λ (x : Outcome). ran (x .system) es) (gives .outcome)
+called-ran (steps {b} {list} {m} {es} performs rest) =
+    called-ran rest ∙ ap (λ (x : System). ran x es) (performs .system) ∙ orders-ran (systemIn b) (ordersIn (length m) list) es
 
 begun : (n k : ℕ) (a b : List ℕ) → length a ≡ imageWidth → Freshens n a k b → systemIn b ≡ start n
 unfolding pick
 begun n k a b long fresh = rw (eq-eqb (length a) imageWidth long) at (ap (λ (x : Outcome). x .system) (fresh .outcome))
 
 pub image-run : EveryRun
-image-run n k a b c os long fresh calls =
-    record { system = called-ran calls ∙ ap (λ (s : System). ran s os) (begun n k a b long fresh); demand = demand-3 n os }
+image-run n k a b c es long fresh calls =
+    record { system = called-ran calls ∙ ap (λ (s : System). ran s es) (begun n k a b long fresh); demand = demand-3 n es }

@@ -1,7 +1,8 @@
 // The library for programs in C and other languages: the engine's functions, with plain numbers. A
 // process's number is wrapped at once; everything below takes it as a `ProcessId`.
 ghost use mathlib.Core.Path.{_≡_};
-ghost use Rattle.plan.specs.declared.Step.{Step};
+ghost use Rattle.plan.specs.declared.Action.{Action};
+ghost use Rattle.plan.specs.Cut.{whole, cutAfter};
 ghost use Rattle.step.specs.Step.{stepped};
 ghost use Rattle.image.specs.Image.{systemIn};
 ghost use Rattle.engine.specs.Engine.{Gives, Performs};
@@ -10,6 +11,8 @@ ghost use Rattle.capi.specs.Calls.{Freshens, Prints};
 use engine::perform;
 use fresh::put_fresh;
 use image::IMAGE;
+use plan::Action;
+use plan::Cut;
 use plan::Step;
 use system::refusal::STRANGER;
 use system::refusal::UNSOUND;
@@ -34,39 +37,89 @@ pub extern "C" fn lobstercreel_fresh(image: &mut [u8], n: u8) -> u8
     }
 }
 
+// What a process does in a step that is not cut.
+fn perform_whole(image: &mut [u8], o: Action) -> u8
+    ensures { λ r. ⌜ Gives (stepped (systemIn (now (image .entry))) (whole o)) (now (image .entry)) r (now (image .exit)) ⌝ }
+{
+    perform(
+        image,
+        Step {
+            action: o,
+            cut: Cut::Whole,
+        },
+    )
+}
+
+// What a process does in a step that is cut after k messages.
+fn perform_cut(image: &mut [u8], o: Action, k: u8) -> u8
+    ensures { λ r. ⌜ Gives (stepped (systemIn (now (image .entry))) (cutAfter o k)) (now (image .entry)) r (now (image .exit)) ⌝ }
+{
+    perform(
+        image,
+        Step {
+            action: o,
+            cut: Cut::After(k),
+        },
+    )
+}
+
 // Process p is told its view.
 #[no_mangle]
 pub extern "C" fn lobstercreel_report(image: &mut [u8], p: u8, view: u8) -> u8
-    ensures { λ r. ⌜ Gives (stepped (systemIn (now (image .entry))) (Step.Report (record { 0 = p }) view)) (now (image .entry)) r (now (image .exit)) ⌝ }
+    ensures { λ r. ⌜ Gives (stepped (systemIn (now (image .entry))) (whole (Action.Report (record { 0 = p }) view))) (now (image .entry)) r (now (image .exit)) ⌝ }
 {
-    perform(image, Step::Report(ProcessId(p), view))
+    perform_whole(image, Action::Report(ProcessId(p), view))
 }
 
 // Process p takes the oldest message from process q.
 #[no_mangle]
 pub extern "C" fn lobstercreel_receive(image: &mut [u8], q: u8, p: u8) -> u8
-    ensures { λ r. ⌜ Gives (stepped (systemIn (now (image .entry))) (Step.Receive (record { 0 = q }) (record { 0 = p }))) (now (image .entry)) r (now (image .exit)) ⌝ }
+    ensures { λ r. ⌜ Gives (stepped (systemIn (now (image .entry))) (whole (Action.Receive (record { 0 = q }) (record { 0 = p })))) (now (image .entry)) r (now (image .exit)) ⌝ }
 {
-    perform(image, Step::Receive(ProcessId(q), ProcessId(p)))
+    perform_whole(image, Action::Receive(ProcessId(q), ProcessId(p)))
 }
 
 // Process p answers the proposal that it recorded from process q.
 #[no_mangle]
 pub extern "C" fn lobstercreel_respond(image: &mut [u8], p: u8, q: u8) -> u8
-    ensures { λ r. ⌜ Gives (stepped (systemIn (now (image .entry))) (Step.Respond (record { 0 = p }) (record { 0 = q }))) (now (image .entry)) r (now (image .exit)) ⌝ }
+    ensures { λ r. ⌜ Gives (stepped (systemIn (now (image .entry))) (whole (Action.Respond (record { 0 = p }) (record { 0 = q })))) (now (image .entry)) r (now (image .exit)) ⌝ }
 {
-    perform(image, Step::Respond(ProcessId(p), ProcessId(q)))
+    perform_whole(image, Action::Respond(ProcessId(p), ProcessId(q)))
 }
 
 // Process p stops for good.
 #[no_mangle]
 pub extern "C" fn lobstercreel_crash(image: &mut [u8], p: u8) -> u8
-    ensures { λ r. ⌜ Gives (stepped (systemIn (now (image .entry))) (Step.Crash (record { 0 = p }))) (now (image .entry)) r (now (image .exit)) ⌝ }
+    ensures { λ r. ⌜ Gives (stepped (systemIn (now (image .entry))) (whole (Action.Crash (record { 0 = p })))) (now (image .entry)) r (now (image .exit)) ⌝ }
 {
-    perform(image, Step::Crash(ProcessId(p)))
+    perform_whole(image, Action::Crash(ProcessId(p)))
 }
 
-// A list of steps, three bytes each, and their numbers.
+// Process p is told its view, and stops after k of its messages.
+#[no_mangle]
+pub extern "C" fn lobstercreel_report_cut(image: &mut [u8], p: u8, view: u8, k: u8) -> u8
+    ensures { λ r. ⌜ Gives (stepped (systemIn (now (image .entry))) (cutAfter (Action.Report (record { 0 = p }) view) k)) (now (image .entry)) r (now (image .exit)) ⌝ }
+{
+    perform_cut(image, Action::Report(ProcessId(p), view), k)
+}
+
+// Process p takes the oldest message from process q, and stops after k of its messages.
+#[no_mangle]
+pub extern "C" fn lobstercreel_receive_cut(image: &mut [u8], q: u8, p: u8, k: u8) -> u8
+    ensures { λ r. ⌜ Gives (stepped (systemIn (now (image .entry))) (cutAfter (Action.Receive (record { 0 = q }) (record { 0 = p })) k)) (now (image .entry)) r (now (image .exit)) ⌝ }
+{
+    perform_cut(image, Action::Receive(ProcessId(q), ProcessId(p)), k)
+}
+
+// Process p answers the proposal that it recorded from process q, and stops after k of its messages.
+#[no_mangle]
+pub extern "C" fn lobstercreel_respond_cut(image: &mut [u8], p: u8, q: u8, k: u8) -> u8
+    ensures { λ r. ⌜ Gives (stepped (systemIn (now (image .entry))) (cutAfter (Action.Respond (record { 0 = p }) (record { 0 = q })) k)) (now (image .entry)) r (now (image .exit)) ⌝ }
+{
+    perform_cut(image, Action::Respond(ProcessId(p), ProcessId(q)), k)
+}
+
+// A list of steps, four bytes each, and their numbers.
 #[no_mangle]
 pub extern "C" fn lobstercreel_steps(image: &mut [u8], list: &[u8], numbers: &mut [u8]) -> usize
     ensures { λ r. ⌜ Performs (now (list .entry)) (now (image .entry)) (now (numbers .entry)) r (now (image .exit)) (now (numbers .exit)) ⌝ }

@@ -1,10 +1,11 @@
--- The worked sheets, the single steps and the agreement rule come out as document 01 says, by computation.
+-- The worked sheets, the single steps, whole and cut, and the agreement rule come out as the papers say, by computation.
 use Prim.Native.Nat.{ℕ}
 use mathlib.Core.Path.{_≡_, refl}
 use mathlib.Core.Bool.{true, false}
 use mathlib.Core.List.{map, flatMap}
 use Rattle.view.specs.Logic.{pick, allUpTo, eachUpTo, at, put, isOneOf}
-use Rattle.view.specs.View.{has, within, with, everyone, firstFrom, leastOf}
+use Rattle.view.specs.View.{has, within, with, everyone, firstFrom, leastOf, countedAt, countOf, joined}
+use Rattle.view.specs.View.{firstOf as firstMembers}
 use Rattle.channel.specs.Channel.{emptyChannel, waiting, pushed, popped}
 use Rattle.system.specs.declared.Process.{Process}
 use Rattle.system.specs.Process.{entryAt, withEntry, asCrashed, pendingAt, withPending, withVariables, withHistory}
@@ -14,8 +15,9 @@ use Rattle.sound.specs.Sound.{every, soundProposal, soundMessage, soundPending,
 use Rattle.plan.specs.declared.Step.{Step}
 use Rattle.plan.specs.Plan.{changed, reportPlan, committingPlan, messagePlan, receivePlan, respondPlan}
 use Rattle.plan.specs.Scope.{scopeOf}
-use Rattle.step.specs.Step.{planOf, takenOff, emptiedFrom, crashedAt, crashedIf, effected, carriedOut, permitted, attempted, stepped, ran}
-use Rattle.agreement.specs.Accepted.{acceptedFrom, acceptedBy, acceptedIn, accepted}
+use Rattle.plan.specs.Cut.{cutShort, cutBy}
+use Rattle.step.specs.Step.{planOf, takenOff, emptiedFrom, crashedAt, crashedIf, effected, carriedOut, permitted, attempted, stepped, happened, ran}
+use Rattle.agreement.specs.Accepted.{acceptedFrom, acceptedAs, acceptedBy, acceptedIn, accepted}
 use Rattle.agreement.specs.Book.{bookEntry, openedBook, apart, apartFrom, admits, writtenIn, madeIn, fed, fedAll, noneRefused}
 use Rattle.agreement.specs.Demand.{start}
 use Rattle.print.specs.Text.{bytes, textUpTo, digits, decimal, memberText, viewText}
@@ -24,23 +26,24 @@ use Rattle.sheet.specs.Lines.{inFirst, withByte, linesOf}
 use Rattle.sheet.specs.Grammar.{piece, passed, ended, followed, readings, some, begins, greatest, column, firstOf, read}
 use Rattle.sheet.specs.Parse.{opened, parsed}
 use Rattle.run.specs.Output.{answered, lineDone, printedThen, printedFrom, badFrom, startedBy, linesOutput, output}
-use Rattle.cases.specs.Systems.{withValues, withStop, withRecord, withWritten, loaded, withMessages, lone}
+use Rattle.cases.specs.Systems.{two, withValues, withStop, withRecord, withWritten, loaded, withMessages, lone}
 use Rattle.cases.specs.Worked.{textOf, stepIn, stepsIn, stepsOf, printedBy, openedWith, startOf, ranOn, queueIn, resultOf, expectedResult}
 use Rattle.cases.specs.Sheets.{k-sheets, k1, k1-ends, k2, k3, k4, k4-full, k5-stays, k5, k6, k7, k8, k8-nine, k9, form-sheets, no-last-lf, later-u, empty-lines, first-u9, one-lf, empty}
 use Rattle.cases.specs.Points.{points, lineOutcome, outcomeOf, expectedOutcome}
+use Rattle.cases.specs.Cuts.{proposedBy1, told, proposing, lastAcc, fullRetry, lastIndex, answering, cuts, cutStop, acceptedByCut, acceptedIsCut}
 use Rattle.cases.specs.Rule.{k2-accepted, k2-agreements, k2-book, at-two, at-three, twice-accepted, shared, trials, admittedBy, expectedAnswer}
 
 -- what the claims are computed with: a claim that unfolds this one unfolds all that its line names
 definitions : Unit {0}
-unfolding pick allUpTo eachUpTo at put has within with everyone firstFrom leastOf
+unfolding pick allUpTo eachUpTo at put has within with everyone firstFrom leastOf countedAt countOf joined firstMembers
     emptyChannel waiting pushed popped
     entryAt withEntry asCrashed pendingAt withPending withVariables withHistory
     noProcess processAt withProcess channelNumber channelAt withChannel sent sentIfNamed broadcasted takesIfNamed roomFor
     freshVariables freshProcess freshSystem freshOf
     every soundProposal soundMessage soundPending soundChannel soundHistory soundVariables soundProcess soundChannelAt soundAt soundSystem
-    changed reportPlan committingPlan messagePlan receivePlan respondPlan scopeOf
-    planOf takenOff emptiedFrom crashedAt crashedIf effected carriedOut permitted attempted stepped ran
-    acceptedFrom acceptedBy acceptedIn accepted
+    changed reportPlan committingPlan messagePlan receivePlan respondPlan scopeOf cutShort cutBy
+    planOf takenOff emptiedFrom crashedAt crashedIf effected carriedOut permitted attempted stepped happened ran
+    acceptedFrom acceptedAs acceptedBy acceptedIn accepted
     bookEntry openedBook apart apartFrom admits writtenIn madeIn fed fedAll noneRefused
     bytes textUpTo digits decimal memberText viewText
     numberedLine columnLine entryText entryTextAt historyText unitLine unitOf unitLines
@@ -49,7 +52,7 @@ unfolding pick allUpTo eachUpTo at put has within with everyone firstFrom leastO
     withValues withStop withRecord withWritten loaded withMessages lone
     textOf stepIn stepsIn stepsOf printedBy openedWith startOf ranOn queueIn resultOf expectedResult
     k1 k1-ends k2 k3 k4 k4-full k5-stays k5 k6 k7 k8 k8-nine k9 no-last-lf later-u empty-lines first-u9 one-lf empty
-    lineOutcome outcomeOf
+    lineOutcome outcomeOf proposedBy1 told proposing lastAcc fullRetry lastIndex answering cutStop acceptedByCut acceptedIsCut
     k2-accepted k2-agreements k2-book at-two at-three twice-accepted shared trials admittedBy
 definitions = tt
 
@@ -66,6 +69,19 @@ worked-forms = refl
 pub worked-points : map outcomeOf points ≡ map expectedOutcome points
 unfolding definitions
 worked-points = refl
+
+-- Cut steps; a stop, which is never cut; and an answer, which accepts although it is.
+pub worked-cuts : map outcomeOf cuts ≡ map expectedOutcome cuts
+unfolding definitions
+worked-cuts = refl
+
+pub stop-not-cut : cutStop ≡ refused 12 two
+unfolding definitions
+stop-not-cut = refl
+
+pub cut-answer-accepts : acceptedByCut ≡ acceptedIsCut
+unfolding definitions
+cut-answer-accepts = refl
 
 -- K8, of every size outside 1 to 8: it "gives refusal 2 and a table of zero units"; and of every step there is: "every step on it
 -- gives 1".

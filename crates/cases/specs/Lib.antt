@@ -4,3 +4,4 @@ pub mod Worked
 pub mod Sheets
 pub mod Points
 pub mod Rule
+pub mod Cuts

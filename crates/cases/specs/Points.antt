@@ -1,6 +1,7 @@
 -- Single steps at the points where the rules are easy to misread, each as a sheet's line, with the whole system after it. In a line
 -- a view is its digits; in a system it is its byte: 1 is {1}, 2 is {2}, 3 is {1,2}. What comes of each step is read off document
 -- 01, not off the program.
+use Prim.Native.Nat.{ℕ}
 use Prim.Native.String.{String}
 use mathlib.Core.List.{List, [], _∷_}
 use lib.ListN.{replicate}
@@ -9,21 +10,24 @@ use Rattle.system.specs.declared.System.{System}
 use Rattle.system.specs.declared.Outcome.{Outcome}
 use Rattle.system.specs.Process.{index}
 use Rattle.system.specs.System.{done, refused}
-use Rattle.system.specs.Fresh.{freshSystem}
 use Rattle.print.specs.Text.{bytes}
 use Rattle.step.specs.Step.{stepped}
 use Rattle.sheet.specs.declared.parse.Line.{Line}
 use Rattle.sheet.specs.declared.parse.Line.the-variants.{Bad, Step}
 use Rattle.sheet.specs.Parse.{parsed}
-use Rattle.cases.specs.Systems.{withValues, withStop, withRecord, withWritten, withMessages, lone}
+use Rattle.cases.specs.Systems.{one, two, withValues, withStop, withRecord, withWritten, withMessages, lone}
 
 pub record Point : Type 0 where
   pub before : System
   pub line : String
   pub after : Outcome
 
-abbrev point : System → String → Outcome → Point
+abbrev pub point : System → String → Outcome → Point
 point s l o = record { before = s; line = l; after = o }
+
+-- it is refused with this number
+abbrev pub refuses : System → String → ℕ → Point
+refuses s l k = point s l (refused k s)
 
 -- what a line does: its step, or nothing
 unfoldable pub lineOutcome : System → Line → Outcome
@@ -37,12 +41,6 @@ outcomeOf x = lineOutcome (x .before) (parsed (bytes (x .line)))
 -- by the point
 abbrev pub expectedOutcome : Point → Outcome
 expectedOutcome x = x .after
-
-abbrev one : System
-one = freshSystem 1
-
-abbrev two : System
-two = freshSystem 2
 
 abbrev pub points : List Point
 points =
@@ -73,23 +71,22 @@ points =
     ∷ point (withRecord (withValues one 1 1 6 1 0 0) 1 1 1 5) "a 1 1"
     (done (withMessages (withValues one 1 1 6 1 0 0) 1 1 (Retry (index 5) (index 6) ∷ [])))
     -- "10 no record, 11 other view": no recorded proposal; one whose view is not the local view, which waits
-    ∷ point two "a 1 2" (refused 10 two)
-    ∷ point (withRecord (withValues two 2 2 2 1 0 0) 2 1 3 2) "a 2 1" (refused 11 (withRecord (withValues two 2 2 2 1 0 0) 2 1 3 2))
+    ∷ refuses two "a 1 2" 10
+    ∷ refuses (withRecord (withValues two 2 2 2 1 0 0) 2 1 3 2) "a 2 1" 11
     -- "both in the place of 5 in the order": after 3, and before 7
-    ∷ point (withStop two 1) "a 1 2" (refused 3 (withStop two 1))
-    ∷ point (withMessages two 1 2 (replicate 8 (Acc (index 2)))) "a 1 2" (refused 10 (withMessages two 1 2 (replicate 8 (Acc (index 2)))))
-    ∷ point (withMessages (withRecord (withValues two 2 2 2 1 0 0) 2 1 3 2) 2 1 (replicate 8 (Acc (index 2)))) "a 2 1"
-    (refused 11 (withMessages (withRecord (withValues two 2 2 2 1 0 0) 2 1 3 2) 2 1 (replicate 8 (Acc (index 2)))))
+    ∷ refuses (withStop two 1) "a 1 2" 3
+    ∷ refuses (withMessages two 1 2 (replicate 8 (Acc (index 2)))) "a 1 2" 10
+    ∷ refuses (withMessages (withRecord (withValues two 2 2 2 1 0 0) 2 1 3 2) 2 1 (replicate 8 (Acc (index 2)))) "a 2 1" 11
     -- an empty channel
-    ∷ point two "t 1 2" (refused 5 two)
+    ∷ refuses two "t 1 2" 5
     -- a view that names a process beyond n, or lacks its own
-    ∷ point two "r 1 13" (refused 4 two)
-    ∷ point two "r 1 2" (refused 4 two)
+    ∷ refuses two "r 1 13" 4
+    ∷ refuses two "r 1 2" 4
     -- 2 goes before 3: the one that would act has stopped, and the other is no process
-    ∷ point (withStop two 1) "t 9 1" (refused 2 (withStop two 1))
-    ∷ point (withStop two 1) "s 1" (refused 3 (withStop two 1))
+    ∷ refuses (withStop two 1) "t 9 1" 2
+    ∷ refuses (withStop two 1) "s 1" 3
     -- one full channel among those that the step needs
-    ∷ point (withMessages two 1 2 (replicate 8 (Acc (index 2)))) "r 1 12" (refused 7 (withMessages two 1 2 (replicate 8 (Acc (index 2)))))
+    ∷ refuses (withMessages two 1 2 (replicate 8 (Acc (index 2)))) "r 1 12" 7
     -- "Every line towards p is emptied; lines from p keep their messages."
     ∷ point (withMessages (withMessages (withMessages two 1 1 (Acc (index 2) ∷ [])) 2 1 (Acc (index 3) ∷ [])) 1 2 (Acc (index 4) ∷ [])) "s 1"
     (done (withMessages (withStop two 1) 1 2 (Acc (index 4) ∷ [])))

@@ -8,7 +8,7 @@ use Rattle.agreement.specs.Book.{Agreement, Book, openedBook, fed, admits}
 use Rattle.agreement.specs.Demand.{start}
 
 -- process p has accepted view v at index i
-abbrev acceptance : ℕ → ℕ → ℕ → Acceptance
+abbrev pub acceptance : ℕ → ℕ → ℕ → Acceptance
 acceptance p v i = record { process = p; view = v; index = i }
 
 -- view v at index i, for these processes to write

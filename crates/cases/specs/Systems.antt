@@ -10,6 +10,12 @@ use Rattle.system.specs.Process.{index, assigned, asCrashed, withEntry, withPen
 use Rattle.system.specs.System.{processAt, variablesAt, withProcess, withChannel}
 use Rattle.system.specs.Fresh.{freshSystem}
 
+abbrev pub one : System
+one = freshSystem 1
+
+abbrev pub two : System
+two = freshSystem 2
+
 -- process p has this local view, Next, PropOut, last proposed view and marks
 unfoldable pub withValues : System → ℕ → ℕ → ℕ → ℕ → ℕ → ℕ → System
 withValues s p view next propout proposal acks =
@@ -40,4 +46,4 @@ withMessages s q p ms = withChannel s q p (loaded emptyChannel ms)
 -- one process by itself, with the local view {1} and Next 2: its PropOut, its last proposed view, its marks, and the messages,
 -- oldest first, that wait on its channel to itself
 unfoldable pub lone : ℕ → ℕ → ℕ → List Message → System
-lone propout proposal acks ms = withMessages (withValues (freshSystem 1) 1 1 2 propout proposal acks) 1 1 ms
+lone propout proposal acks ms = withMessages (withValues one 1 1 2 propout proposal acks) 1 1 ms

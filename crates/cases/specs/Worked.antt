@@ -9,14 +9,12 @@ use Rattle.system.specs.declared.System.{System}
 use Rattle.system.specs.declared.Outcome.{Outcome}
 use Rattle.system.specs.System.{channelAt}
 use Rattle.system.specs.Fresh.{freshSystem}
-use Rattle.plan.specs.declared.Step.{Step}
-use Rattle.step.specs.Step.{ran}
+use Rattle.step.specs.Step.{Event, does, ran}
 use Rattle.print.specs.Text.{bytes}
 use Rattle.sheet.specs.declared.parse.Opening.{Opening}
 use Rattle.sheet.specs.declared.parse.Opening.the-variants.{Bad as BadFirst, Fresh}
 use Rattle.sheet.specs.declared.parse.Line.{Line}
-use Rattle.sheet.specs.declared.parse.Line.the-variants.{Bad}
-use Rattle.sheet.specs.declared.parse.Line.the-variants.{Step as Asked}
+use Rattle.sheet.specs.declared.parse.Line.the-variants.{Bad, Step}
 use Rattle.sheet.specs.Lines.{linesOf}
 use Rattle.sheet.specs.Parse.{opened, parsed}
 use Rattle.run.specs.Output.{answered, printedThen, printedFrom, output}
@@ -27,15 +25,15 @@ textOf [] = []
 textOf (s ∷ ss) = bytes s ++ textOf ss
 
 -- the steps that the lines of a text ask for
-unfoldable pub stepIn : Line → List Step
+unfoldable pub stepIn : Line → List Event
 stepIn (Bad column) = []
-stepIn (Asked o) = o ∷ []
+stepIn (Step o) = does o ∷ []
 
-unfoldable pub stepsIn : List (List ℕ) → List Step
+unfoldable pub stepsIn : List (List ℕ) → List Event
 stepsIn [] = []
 stepsIn (l ∷ ls) = stepIn (parsed l) ++ stepsIn ls
 
-unfoldable pub stepsOf : List String → List Step
+unfoldable pub stepsOf : List String → List Event
 stepsOf parts = stepsIn (linesOf (textOf parts))
 
 -- A sheet starts from its own first line, or from what is handed over: a system, with the number that it was given out with.

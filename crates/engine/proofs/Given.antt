@@ -17,6 +17,7 @@ use Rattle.plan.specs.declared.Plan.{Plan}
 use Rattle.plan.specs.declared.Scope.{Scope}
 use Rattle.plan.specs.declared.Step.{Step}
 use Rattle.plan.specs.Scope.{scopeOf}
+use Rattle.plan.specs.Cut.{cutBy}
 use Rattle.step.specs.Step.{planOf, takenOff, effected, carriedOut, permitted, attempted, stepped}
 use Rattle.step.proofs.Frames.{Shape}
 use Rattle.step.proofs.Soundness.{Valid}
@@ -69,7 +70,7 @@ attempts o b k c given =
 refused-gives : (o : Outcome) (b : List ℕ) (k : ℕ) → refused k (systemIn b) ≡ o → Gives o b k b
 refused-gives o b k e = record { outcome = e; kept = λ h. refl }
 
-module _ (b : List ℕ) (o : Step) (c : Scope) (scope : c ≡ scopeOf o) (g : ℕ)
+module _ (b : List ℕ) (o : Step) (c : Scope) (scope : c ≡ scopeOf (o .action)) (g : ℕ)
     (guard : g ≡ pick (isOneOf (systemIn b .n) (c .actor .0) && isOneOf (systemIn b .n) (c .partner .0)) (pick (variablesAt (systemIn b) (c .actor .0) .crashed) 3 0) 2) where
   -- refusals 2 and 3
   pub turned-away : (g ≡ 0 → ⊥) → Attempts o b g b
@@ -77,12 +78,12 @@ module _ (b : List ℕ) (o : Step) (c : Scope) (scope : c ≡ scopeOf o) (g : �
   turned-away some = attempts o b g b (refused-gives _ b g (rw (← scope) (go (isOneOf (systemIn b .n) (c .actor .0) && isOneOf (systemIn b .n) (c .partner .0)) (variablesAt (systemIn b) (c .actor .0) .crashed) guard)))
     where
       go : (named crashed : Bool) → g ≡ pick named (pick crashed 3 0) 2
-          → refused g (systemIn b) ≡ pick named (pick crashed (refused 3 (systemIn b)) (carriedOut (systemIn b) (takenOff (systemIn b) c) (c .actor .0) (planOf (systemIn b) o))) (refused 2 (systemIn b))
+          → refused g (systemIn b) ≡ pick named (pick crashed (refused 3 (systemIn b)) (carriedOut (systemIn b) (takenOff (systemIn b) c) (c .actor .0) (cutBy (o .cut) (planOf (systemIn b) (o .action))))) (refused 2 (systemIn b))
       go true true e = rw e
       go true false e = absurd (some e)
       go false crashed e = rw e
 
-  module _ (none : g ≡ 0) (a : Plan) (plan : a ≡ planOf (systemIn b) o) where
+  module _ (none : g ≡ 0) (a : Plan) (plan : a ≡ cutBy (o .cut) (planOf (systemIn b) (o .action))) where
     through : attempted (systemIn b) o ≡ carriedOut (systemIn b) (takenOff (systemIn b) c) (c .actor .0) a
     unfolding attempted permitted pick
     through = rw (← scope, ← plan) (go (isOneOf (systemIn b .n) (c .actor .0) && isOneOf (systemIn b .n) (c .partner .0)) (variablesAt (systemIn b) (c .actor .0) .crashed) guard)

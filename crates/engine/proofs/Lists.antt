@@ -45,18 +45,18 @@ module _ (list : List ℕ) (first : System) (m₀ : List ℕ) (all : ℕ) where
       let e : all - 0 ≡ all = omega arith in
       record { within = omega arith; long = refl; numbers = rw e; system = rw e; rest = refl }
 
-  next-order : (k : ℕ) → k < all → ordersFrom (all - k) list k ≡ orderAt list (3 * k) ∷ ordersFrom (all - (k + 1)) list (k + 1)
+  next-order : (k : ℕ) → k < all → ordersFrom (all - k) list k ≡ orderAt list (4 * k) ∷ ordersFrom (all - (k + 1)) list (k + 1)
   unfolding ordersFrom
   next-order k h = let e : all - k ≡ suc (all - (k + 1)) = omega arith in rw e
 
-  pub one-further : (k : ℕ) (s t : System) (m : List ℕ) (r : ℕ) (o : Order) → k < all → k < length m → o ≡ orderAt list (3 * k)
+  pub one-further : (k : ℕ) (s t : System) (m : List ℕ) (r : ℕ) (o : Order) → k < all → k < length m → o ≡ orderAt list (4 * k)
       → record { refusal = r; system = t } ≡ obeyed s o
       → SoFar list first m₀ all k s m
       → SoFar list first m₀ all (k + 1) t (set m k r)
   unfolding numbersOf systemAfter
   one-further k s t m r o h room order obeys so-far =
-      let number : obeyed s (orderAt list (3 * k)) .refusal ≡ r = sym (ap (λ (a : Outcome). a .refusal) (obeys ∙ ap (obeyed s) order)) in
-      let after : obeyed s (orderAt list (3 * k)) .system ≡ t = sym (ap (λ (a : Outcome). a .system) (obeys ∙ ap (obeyed s) order)) in
+      let number : obeyed s (orderAt list (4 * k)) .refusal ≡ r = sym (ap (λ (a : Outcome). a .refusal) (obeys ∙ ap (obeyed s) order)) in
+      let after : obeyed s (orderAt list (4 * k)) .system ≡ t = sym (ap (λ (a : Outcome). a .system) (obeys ∙ ap (obeyed s) order)) in
       let more = rw (next-order k h) at (so-far .numbers) in
       record {
         within = omega arith;
@@ -82,10 +82,10 @@ orders-long zero list i = refl
 orders-long (suc k) list i = ap suc (orders-long k list (i + 1))
 
 -- an order that is obeyed begins inside its list, and has a place for its number
-pub order-inside : (list m : List ℕ) (all k : ℕ) → all ≡ min (length m) (orderCount list) → k < all → (3 * k ≤ length list) × (k < length m)
+pub order-inside : (list m : List ℕ) (all k : ℕ) → all ≡ min (length m) (orderCount list) → k < all → (4 * k ≤ length list) × (k < length m)
 unfolding orderCount pick
-order-inside list m all k e h = go (eqb (length list % 3) 0) e
+order-inside list m all k e h = go (eqb (length list % 4) 0) e
   where
-    go : (b : Bool) → all ≡ min (length m) (pick b (length list / 3) (length list / 3 + 1)) → (3 * k ≤ length list) × (k < length m)
+    go : (b : Bool) → all ≡ min (length m) (pick b (length list / 4) (length list / 4 + 1)) → (4 * k ≤ length list) × (k < length m)
     go true f = (omega arith, omega arith)
     go false f = (omega arith, omega arith)

@@ -10,8 +10,11 @@ use Rattle.system.specs.declared.System.{System}
 use Rattle.system.specs.declared.Outcome.{Outcome}
 use Rattle.system.specs.System.{refused}
 use Rattle.sound.specs.Sound.{soundSystem}
+use Rattle.plan.specs.declared.Action.{Action}
+use Rattle.plan.specs.declared.Action.the-variants.{Report, Receive, Respond, Crash}
+use Rattle.plan.specs.declared.Cut.{Cut}
+use Rattle.plan.specs.declared.Cut.the-variants.{Whole, After}
 use Rattle.plan.specs.declared.Step.{Step}
-use Rattle.plan.specs.declared.Step.the-variants as Step
 use Rattle.step.specs.Step.{attempted, stepped}
 use Rattle.image.specs.Image.{systemIn}
 use Rattle.engine.specs.declared.Order.{Order}
@@ -28,27 +31,35 @@ pub record Attempts (o : Step) (b : List ℕ) (k : ℕ) (c : List ℕ) : Type 0 
   pub steps : soundSystem (systemIn b) ≡ true → Gives (stepped (systemIn b) o) b k c
   pub stays : soundSystem (systemIn b) ≡ true → soundSystem (systemIn c) ≡ true
 
--- ---- a list of steps, three bytes each: its kind and what it names
+-- ---- a list of steps, four bytes each: its kind, what it names, and how it is cut
+-- 255 is a whole step, and any other byte the number of messages after which it is cut
+unfoldable pub cutOf : ℕ → Cut
+cutOf k = pick (eqb k 255) Whole (After k)
+
+abbrev pub ordered : Action → Cut → Order
+ordered o c = Do (record { action = o; cut = c })
+
 -- a kind that there is not is no step
-unfoldable pub orderOf : ℕ → ℕ → ℕ → Order
-orderOf kind x y =
-    pick (eqb kind 0) (Do (Step.Report (record { 0 = x }) y))
-    (pick (eqb kind 1) (Do (Step.Receive (record { 0 = x }) (record { 0 = y })))
-    (pick (eqb kind 2) (Do (Step.Respond (record { 0 = x }) (record { 0 = y })))
-    (pick (eqb kind 3) (Do (Step.Crash (record { 0 = x }))) Unknown)))
+unfoldable pub orderOf : ℕ → ℕ → ℕ → Cut → Order
+orderOf kind x y c =
+    pick (eqb kind 0) (ordered (Report (record { 0 = x }) y) c)
+    (pick (eqb kind 1) (ordered (Receive (record { 0 = x }) (record { 0 = y })) c)
+    (pick (eqb kind 2) (ordered (Respond (record { 0 = x }) (record { 0 = y })) c)
+    (pick (eqb kind 3) (ordered (Crash (record { 0 = x })) c) Unknown)))
 
 -- the order that begins at a place: bytes that break off inside a step are no step either
 unfoldable pub orderAt : List ℕ → ℕ → Order
-orderAt l at = pick (ltb 2 (length l - at)) (orderOf (getD l at 0) (getD l (at + 1) 0) (getD l (at + 2) 0)) Unknown
+orderAt l at =
+    pick (ltb 3 (length l - at)) (orderOf (getD l at 0) (getD l (at + 1) 0) (getD l (at + 2) 0) (cutOf (getD l (at + 3) 0))) Unknown
 
 -- how many orders a list has, one that breaks off among them
 unfoldable pub orderCount : List ℕ → ℕ
-orderCount l = pick (eqb (length l % 3) 0) (length l / 3) (length l / 3 + 1)
+orderCount l = pick (eqb (length l % 4) 0) (length l / 4) (length l / 4 + 1)
 
 -- k orders of a list, from the one numbered i on, counted from 0
 unfoldable pub ordersFrom : ℕ → List ℕ → ℕ → List Order
 ordersFrom zero l i = []
-ordersFrom (suc k) l i = orderAt l (3 * i) ∷ ordersFrom k l (i + 1)
+ordersFrom (suc k) l i = orderAt l (4 * i) ∷ ordersFrom k l (i + 1)
 
 -- its orders, as many of them as there are places for their numbers
 unfoldable pub ordersIn : ℕ → List ℕ → List Order

@@ -9,7 +9,7 @@ ghost use Rattle.sound.specs.Sound.{soundSystem};
 ghost use Rattle.plan.specs.Plan.{changed};
 ghost use Rattle.step.specs.Step.{planOf, takenOff, crashedAt, crashedIf, effected, stepped};
 ghost use Rattle.image.specs.Image.{systemIn};
-ghost use Rattle.engine.specs.Engine.{Gives, Attempts, orderOf, orderAt, orderCount, obeyed, Performs};
+ghost use Rattle.engine.specs.Engine.{Gives, Attempts, cutOf, orderOf, orderAt, orderCount, obeyed, Performs};
 use channel::Message;
 use image::clear;
 use image::front_at;
@@ -22,10 +22,13 @@ use image::put_pending;
 use image::put_variables;
 use image::size;
 use image::variables_at;
+use plan::Action;
 use plan::Change;
+use plan::Cut;
 use plan::Plan;
 use plan::Scope;
 use plan::Step;
+use plan::cut_by;
 use plan::scope_of;
 use system::refusal::BAD_LINE;
 use system::refusal::CHANNEL_FULL;
@@ -39,19 +42,19 @@ use view::has;
 use view::is_one_of;
 use view::or;
 
-// What the acting process plans.
-fn plan_of(image: &[u8], o: Step) -> Plan
+// What the acting process plans, where it is not cut.
+fn plan_of(image: &[u8], o: Action) -> Plan
     ensures { λ r. ⌜ r ≡ planOf (systemIn (now (image .entry))) o ⌝ }
 {
     match o {
-        Step::Report(p, view) => plan::report_plan(size(image), p, view, variables_at(image, p)),
-        Step::Receive(q, p) => {
+        Action::Report(p, view) => plan::report_plan(size(image), p, view, variables_at(image, p)),
+        Action::Receive(q, p) => {
             plan::receive_plan(q, p, variables_at(image, p), front_at(image, q, p))
         }
-        Step::Respond(p, q) => {
+        Action::Respond(p, q) => {
             plan::respond_plan(q, variables_at(image, p), pending_at(image, p, q))
         }
-        Step::Crash(p) => plan::crash_plan(variables_at(image, p)),
+        Action::Crash(p) => plan::crash_plan(variables_at(image, p)),
     }
 }
 
@@ -191,10 +194,13 @@ fn carry_out(image: &mut [u8], c: Scope, a: Plan)
 pub fn attempt(image: &mut [u8], o: Step) -> u8
     ensures { λ r. ⌜ Attempts o (now (image .entry)) r (now (image .exit)) ⌝ }
 {
-    let c = scope_of(o);
+    let action = o.action;
+    let cut = o.cut;
+    let c = scope_of(action);
     let refusal = guard(image, c);
     if refusal == 0 {
-        let a = plan_of(image, o);
+        let full = plan_of(image, action);
+        let a = cut_by(cut, full);
         if a.refusal == 0 {
             if room(image, c, a.addressees) {
                 carry_out(image, c, a);
@@ -221,23 +227,49 @@ pub fn perform(image: &mut [u8], o: Step) -> u8
     }
 }
 
-// What three bytes of a list of steps say.
+// What four bytes of a list of steps say.
 pub enum Order {
     Unknown,
     Do(Step),
 }
 
-fn order_of(kind: u8, x: u8, y: u8) -> Order
-    ensures { λ r. ⌜ r ≡ orderOf kind x y ⌝ }
+// The fourth byte of an order whose step is whole.
+pub const WHOLE: u8 = 255;
+
+// What the fourth byte says: any other is the number of messages after which the step is cut.
+fn cut_of(byte: u8) -> Cut
+    ensures { λ r. ⌜ r ≡ cutOf byte ⌝ }
+{
+    if byte == WHOLE {
+        Cut::Whole
+    } else {
+        Cut::After(byte)
+    }
+}
+
+fn order_of(kind: u8, x: u8, y: u8, cut: Cut) -> Order
+    ensures { λ r. ⌜ r ≡ orderOf kind x y cut ⌝ }
 {
     if kind == 0 {
-        Order::Do(Step::Report(ProcessId(x), y))
+        Order::Do(Step {
+            action: Action::Report(ProcessId(x), y),
+            cut,
+        })
     } else if kind == 1 {
-        Order::Do(Step::Receive(ProcessId(x), ProcessId(y)))
+        Order::Do(Step {
+            action: Action::Receive(ProcessId(x), ProcessId(y)),
+            cut,
+        })
     } else if kind == 2 {
-        Order::Do(Step::Respond(ProcessId(x), ProcessId(y)))
+        Order::Do(Step {
+            action: Action::Respond(ProcessId(x), ProcessId(y)),
+            cut,
+        })
     } else if kind == 3 {
-        Order::Do(Step::Crash(ProcessId(x)))
+        Order::Do(Step {
+            action: Action::Crash(ProcessId(x)),
+            cut,
+        })
     } else {
         Order::Unknown
     }
@@ -259,8 +291,8 @@ fn order_at(list: &[u8], at: usize) -> Order
     ensures { λ r. ⌜ r ≡ orderAt (now (list .entry)) at ⌝ }
 {
     if at < list.len() {
-        if 2 < list.len() - at {
-            order_of(list[at], list[at + 1], list[at + 2])
+        if 3 < list.len() - at {
+            order_of(list[at], list[at + 1], list[at + 2], cut_of(list[at + 3]))
         } else {
             Order::Unknown
         }
@@ -273,8 +305,8 @@ fn order_at(list: &[u8], at: usize) -> Order
 fn order_count(list: &[u8]) -> usize
     ensures { λ r. ⌜ r ≡ orderCount (now (list .entry)) ⌝ }
 {
-    let whole = list.len() / 3;
-    if list.len() % 3 == 0 {
+    let whole = list.len() / 4;
+    if list.len() % 4 == 0 {
         whole
     } else {
         whole + 1
@@ -287,9 +319,10 @@ fn lesser(a: usize, b: usize) -> usize
     if a < b { a } else { b }
 }
 
-// A list of steps, three bytes each: kind 0 is a report (process, view), 1 a receive (from, at), 2 a
-// response (process, to), 3 a crash (process, any byte). Their numbers go into the lent slice: as many
-// steps are done as it has places. The answer is how many that were.
+// A list of steps, four bytes each: kind 0 is a report (process, view), 1 a receive (from, at), 2 a
+// response (process, to), 3 a crash (process, any byte); then WHOLE, or the number of messages after
+// which the step is cut. Their numbers go into the lent slice: as many steps are done as it has
+// places. The answer is how many that were.
 pub fn perform_all(image: &mut [u8], list: &[u8], numbers: &mut [u8]) -> usize
     ensures { λ r. ⌜ Performs (now (list .entry)) (now (image .entry)) (now (numbers .entry)) r (now (image .exit)) (now (numbers .exit)) ⌝ }
 {
@@ -297,7 +330,7 @@ pub fn perform_all(image: &mut [u8], list: &[u8], numbers: &mut [u8]) -> usize
     let total = lesser(numbers.len(), order_count(list));
     let mut count = 0;
     while count < total {
-        numbers[count] = obey(image, good, order_at(list, 3 * count));
+        numbers[count] = obey(image, good, order_at(list, 4 * count));
         count += 1;
     }
     count

@@ -1,9 +1,12 @@
 // The typed library: a step on a system by value. Each is the engine's, between encoding and decoding.
 ghost use mathlib.Core.Path.{_≡_};
 ghost use lib.ListN.{length};
-ghost use Rattle.plan.specs.declared.Step.{Step};
+ghost use Rattle.plan.specs.declared.Action.{Action};
+ghost use Rattle.plan.specs.Cut.{whole};
 ghost use Rattle.step.specs.Step.{stepped};
 ghost use Rattle.image.specs.Image.{imageWidth};
+use plan::Action;
+use plan::Cut;
 use plan::Step;
 use system::Outcome;
 use system::System;
@@ -16,7 +19,7 @@ fn image_buffer() -> [u8; 2097]
     [0; 2097]
 }
 
-// One step of any kind.
+// One step of any kind, whole or cut.
 pub fn perform(s: System, o: Step) -> Outcome
     ensures { λ r. ⌜ r ≡ stepped s o ⌝ }
 {
@@ -27,30 +30,43 @@ pub fn perform(s: System, o: Step) -> Outcome
     Outcome { refusal, system }
 }
 
+// What a process does in a step that is not cut.
+fn perform_whole(s: System, o: Action) -> Outcome
+    ensures { λ r. ⌜ r ≡ stepped s (whole o) ⌝ }
+{
+    perform(
+        s,
+        Step {
+            action: o,
+            cut: Cut::Whole,
+        },
+    )
+}
+
 // Process p is told its view.
 pub fn report(s: System, p: ProcessId, view: u8) -> Outcome
-    ensures { λ r. ⌜ r ≡ stepped s (Step.Report p view) ⌝ }
+    ensures { λ r. ⌜ r ≡ stepped s (whole (Action.Report p view)) ⌝ }
 {
-    perform(s, Step::Report(p, view))
+    perform_whole(s, Action::Report(p, view))
 }
 
 // Process p takes the oldest message from process q.
 pub fn receive(s: System, q: ProcessId, p: ProcessId) -> Outcome
-    ensures { λ r. ⌜ r ≡ stepped s (Step.Receive q p) ⌝ }
+    ensures { λ r. ⌜ r ≡ stepped s (whole (Action.Receive q p)) ⌝ }
 {
-    perform(s, Step::Receive(q, p))
+    perform_whole(s, Action::Receive(q, p))
 }
 
 // Process p answers the proposal that it recorded from process q.
 pub fn respond(s: System, p: ProcessId, q: ProcessId) -> Outcome
-    ensures { λ r. ⌜ r ≡ stepped s (Step.Respond p q) ⌝ }
+    ensures { λ r. ⌜ r ≡ stepped s (whole (Action.Respond p q)) ⌝ }
 {
-    perform(s, Step::Respond(p, q))
+    perform_whole(s, Action::Respond(p, q))
 }
 
 // Process p stops for good.
 pub fn crash(s: System, p: ProcessId) -> Outcome
-    ensures { λ r. ⌜ r ≡ stepped s (Step.Crash p) ⌝ }
+    ensures { λ r. ⌜ r ≡ stepped s (whole (Action.Crash p)) ⌝ }
 {
-    perform(s, Step::Crash(p))
+    perform_whole(s, Action::Crash(p))
 }

@@ -1,4 +1,5 @@
--- Figure 3, guarded command by guarded command: what the acting process does; and whom a step names.
+-- Figure 3, guarded command by guarded command: what the acting process does; whom an action names; and how a step is cut.
 pub mod Fields
 pub mod Plan
 pub mod Scope
+pub mod Cut

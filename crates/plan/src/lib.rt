@@ -1,4 +1,4 @@
-// What the acting process does: Figure 3, guarded command by guarded command.
+// What the acting process does: Figure 3, guarded command by guarded command; and how a step is cut.
 ghost use mathlib.Core.Path.{_≡_};
 ghost use lib.Dec.{eqb};
 ghost use Rattle.view.specs.Logic.{pick};
@@ -7,10 +7,12 @@ ghost use Rattle.system.specs.Process.{assigned};
 ghost use Rattle.plan.specs.Fields.{withView, withNext, withAcks, proposing, reproposing};
 ghost use Rattle.plan.specs.Plan.{assigning, recording, entering, sending, quietly, refusing, reportPlan, committingPlan, messagePlan, receivePlan, respondPlan, crashPlan};
 ghost use Rattle.plan.specs.Scope.{scopeOf};
+ghost use Rattle.plan.specs.Cut.{cutShort, cutBy};
 use channel::Front;
 use channel::Message;
 use system::Pending;
 use system::Variables;
+use system::refusal::CUT_TOO_LATE;
 use system::refusal::HISTORY_FULL;
 use system::refusal::NO_RECORD;
 use system::refusal::NOTHING_THERE;
@@ -20,14 +22,16 @@ use system::refusal::UNSOUND;
 use view::GroupIndex;
 use view::ProcessId;
 use view::and;
+use view::count;
+use view::first_of;
 use view::has;
 use view::least;
 use view::subset;
 use view::with;
 use view::within;
 
-// One step of any kind.
-pub enum Step {
+// What a process does in one step.
+pub enum Action {
     // The process is told its view.
     Report(ProcessId, u8),
     // From the first process, at the second: the oldest message comes off the channel.
@@ -38,36 +42,50 @@ pub enum Step {
     Crash(ProcessId),
 }
 
-// Whom a step names.
+// How much of a step is done.
+pub enum Cut {
+    // All of it.
+    Whole,
+    // The process stops after so many of its messages.
+    After(u8),
+}
+
+// One step of any kind: what the process does, and whether it is cut.
+pub struct Step {
+    pub action: Action,
+    pub cut: Cut,
+}
+
+// Whom an action names.
 pub struct Scope {
     // The process that acts.
     pub actor: ProcessId,
-    // The other one that the step names; the same where it names one.
+    // The other one that the action names; the same where it names one.
     pub partner: ProcessId,
     // It takes a message off the channel from the partner.
     pub takes: bool,
 }
 
-pub fn scope_of(o: Step) -> Scope
+pub fn scope_of(o: Action) -> Scope
     ensures { λ r. ⌜ r ≡ scopeOf o ⌝ }
 {
     match o {
-        Step::Report(p, view) => Scope {
+        Action::Report(p, view) => Scope {
             actor: p,
             partner: p,
             takes: false,
         },
-        Step::Receive(q, p) => Scope {
+        Action::Receive(q, p) => Scope {
             actor: p,
             partner: q,
             takes: true,
         },
-        Step::Respond(p, q) => Scope {
+        Action::Respond(p, q) => Scope {
             actor: p,
             partner: q,
             takes: false,
         },
-        Step::Crash(p) => Scope {
+        Action::Crash(p) => Scope {
             actor: p,
             partner: p,
             takes: false,
@@ -334,5 +352,40 @@ pub fn crash_plan(x: Variables) -> Plan
         stops: true,
         addressees: 0,
         message: Message::Propose(0, GroupIndex(0)),
+    }
+}
+
+// The plan, cut after its first k messages: then the process stops.
+fn cut_short(k: u8, a: Plan) -> Plan
+    ensures { λ r. ⌜ r ≡ cutShort k a ⌝ }
+{
+    let change = a.change;
+    let to = a.addressees;
+    let m = a.message;
+    if a.refusal == 0 {
+        if k < count(to) {
+            Plan {
+                refusal: 0,
+                change,
+                stops: true,
+                addressees: first_of(k, to),
+                message: m,
+            }
+        } else {
+            let x = change.variables;
+            refusing(CUT_TOO_LATE, x)
+        }
+    } else {
+        a
+    }
+}
+
+// The plan of a step, whose action has this plan.
+pub fn cut_by(cut: Cut, a: Plan) -> Plan
+    ensures { λ r. ⌜ r ≡ cutBy cut a ⌝ }
+{
+    match cut {
+        Cut::Whole => a,
+        Cut::After(k) => cut_short(k, a),
     }
 }

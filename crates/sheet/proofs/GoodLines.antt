@@ -12,7 +12,6 @@ use lib.ListN.{length, getD}
 use Rattle.view.specs.Logic.{pick, isOneOf}
 use Rattle.view.specs.View.{with}
 use Rattle.view.proofs.Laws.{true-is-not-false, by-test, by-number, and-left, and-right, is-one-of}
-use Rattle.plan.specs.declared.Step.the-variants.{Report, Receive, Respond, Crash}
 use Rattle.print.specs.Text.{bytes}
 use Rattle.sheet.specs.declared.parse.Opening.{Opening}
 use Rattle.sheet.specs.declared.parse.Opening.the-variants.{Bad as BadFirst, Fresh}
@@ -213,7 +212,8 @@ first-good l = also (λ vs w. refl) none
 
 later-good : (l : List ℕ) → All (Says (λ (x : Line). good x ≡ true) l) laterForms
 unfolding good
-later-good l = also (λ vs w. refl) (also (λ vs w. refl) (also (λ vs w. refl) (also (λ vs w. refl) none)))
+later-good l =
+    also (λ vs w. refl) (also (λ vs w. refl) (also (λ vs w. refl) (also (λ vs w. refl) (also (λ vs w. refl) (also (λ vs w. refl) (also (λ vs w. refl) none))))))
 
 -- good exactly if allowed
 pub good-if-allowed-first : (l : List ℕ) → goodFirst (opened l) ≡ allowed firstForms l

@@ -188,12 +188,12 @@ module _ {A : Type 0} (bad : ℕ → A) (x : Form A) (xs : List (Form A)) where
 
 -- ---- where the form ends
 module _ {A : Type 0} (bad : ℕ → A) (says : (ℕ → ℕ) → A) (fs : List ℕ) (k : ℕ) where
-  pub form-ended : (m : List ℕ) → length m ≡ 0 → readFrom bad (form says fs [] ∷ []) k m ≡ says (λ i. getD fs i 0)
+  form-ended : (m : List ℕ) → length m ≡ 0 → readFrom bad (form says fs [] ∷ []) k m ≡ says (λ i. getD fs i 0)
   unfolding flatMap ended
   form-ended [] h = ends bad (form says fs [] ∷ []) k _ [] refl
   form-ended (c ∷ cs) h = absurd (omega arith)
 
-  pub line-longer : (m : List ℕ) → 0 < length m → readFrom bad (form says fs [] ∷ []) k m ≡ bad (k + 1)
+  line-longer : (m : List ℕ) → 0 < length m → readFrom bad (form says fs [] ∷ []) k m ≡ bad (k + 1)
   unfolding flatMap passed
   line-longer [] h = absurd (omega arith)
   line-longer (c ∷ cs) h = is-stuck bad (form says fs [] ∷ []) k c cs refl
@@ -355,11 +355,6 @@ unfolding risen
 risen-within k last v [] = omega arith
 risen-within k last v (b ∷ bs) =
     by-pick (λ (x : Field). x .end ≤ k + suc (length bs)) (rises last b) _ _ (λ e. omega (arith, risen-within (suc k) b (with v (valueOf b)) bs)) (λ e. omega arith)
-
-pub view-low : (k : ℕ) (m : List ℕ) → k ≤ viewFrom k m .end
-unfolding viewFrom
-view-low k [] = omega arith
-view-low k (b ∷ bs) = by-pick (λ (x : Field). k ≤ x .end) (eqb b 45) _ _ (λ e. omega arith) (λ e. risen-low k 48 0 (b ∷ bs))
 
 pub view-within : (k : ℕ) (m : List ℕ) → viewFrom k m .end ≤ k + length m
 unfolding viewFrom

@@ -3,7 +3,9 @@ use Prim.Native.Nat.{ℕ}
 use Prim.Native.String.{String}
 use mathlib.Core.List.{List, [], _∷_, _++_, map}
 use Rattle.print.specs.Text.{bytes}
-use Rattle.plan.specs.declared.Step.the-variants.{Report, Receive, Respond, Crash}
+use Rattle.plan.specs.declared.Action.{Action}
+use Rattle.plan.specs.declared.Action.the-variants.{Report, Receive, Respond, Crash}
+use Rattle.plan.specs.Cut.{whole, cutAfter}
 use Rattle.sheet.specs.declared.parse.Opening.{Opening}
 use Rattle.sheet.specs.declared.parse.Opening.the-variants.{Bad as BadFirst, Fresh}
 use Rattle.sheet.specs.declared.parse.Line.{Line}
@@ -70,20 +72,35 @@ firstSayings =
     ∷ "U 1" says BadFirst 1
     ∷ "x" says BadFirst 1
     ∷ "r 1 1" says BadFirst 1
+    -- a fresh system is not cut
+    ∷ "u 2 cut 0" says BadFirst 4
     ∷ []
 
 -- lines that ask for a step, by the numbers in them
+abbrev report : ℕ → ℕ → Action
+report p v = Report (process p) v
+
+abbrev receive : ℕ → ℕ → Action
+receive q p = Receive (process q) (process p)
+
+abbrev respond : ℕ → ℕ → Action
+respond p q = Respond (process p) (process q)
+
 abbrev reports : ℕ → ℕ → Line
-reports p v = Step (Report (process p) v)
+reports p v = Step (whole (report p v))
 
 abbrev receives : ℕ → ℕ → Line
-receives q p = Step (Receive (process q) (process p))
+receives q p = Step (whole (receive q p))
 
 abbrev responds : ℕ → ℕ → Line
-responds p q = Step (Respond (process p) (process q))
+responds p q = Step (whole (respond p q))
 
 abbrev crashes : ℕ → Line
-crashes p = Step (Crash (process p))
+crashes p = Step (whole (Crash (process p)))
+
+-- cut after so many messages
+abbrev cuts : Action → ℕ → Line
+cuts o k = Step (cutAfter o k)
 
 abbrev pub sayings : List (Saying Line)
 sayings =
@@ -102,6 +119,14 @@ sayings =
     ∷ "s 3" says crashes 3
     ∷ "s 0" says crashes 0
     ∷ "s 9" says crashes 9
+    -- cut after any digit
+    ∷ "r 1 12 cut 3" says cuts (report 1 3) 3
+    ∷ "r 1 - cut 0" says cuts (report 1 0) 0
+    ∷ "r 9 12345678 cut 9" says cuts (report 9 255) 9
+    ∷ "t 1 2 cut 0" says cuts (receive 1 2) 0
+    ∷ "t 9 0 cut 8" says cuts (receive 9 0) 8
+    ∷ "a 1 2 cut 1" says cuts (respond 1 2) 1
+    ∷ "a 0 9 cut 9" says cuts (respond 0 9) 9
     -- a view's digits are 1 to 8 and rise
     ∷ "r 1 0" says Bad 5
     ∷ "r 1 9" says Bad 5
@@ -124,25 +149,45 @@ sayings =
     ∷ "a 1" says Bad 4
     ∷ "s" says Bad 2
     ∷ "s " says Bad 3
+    -- breaking off within ` cut K`
+    ∷ "t 1 2 " says Bad 7
+    ∷ "t 1 2 c" says Bad 8
+    ∷ "t 1 2 cut" says Bad 10
+    ∷ "a 1 2 cut" says Bad 10
+    ∷ "a 1 2 cut " says Bad 11
+    ∷ "r 1 1 " says Bad 7
+    ∷ "r 1 - cut" says Bad 10
     -- `u` comes only first
     ∷ "u 1" says Bad 1
     ∷ "u" says Bad 1
     -- nothing more, nothing else
     ∷ "r 12 1" says Bad 4
     ∷ "r 1  1" says Bad 5
-    ∷ "r 1 1 " says Bad 6
-    ∷ "r 1 1 2" says Bad 6
+    ∷ "r 1 1 2" says Bad 7
+    ∷ "r 1 12 3" says Bad 8
+    ∷ "r 1 12cut 3" says Bad 7
+    ∷ "r 1 cut 3" says Bad 5
     ∷ "r 1 1\r" says Bad 6
     ∷ "r - 1" says Bad 3
     ∷ "r1 1" says Bad 2
     ∷ "t 1 23" says Bad 6
     ∷ "t 1 a" says Bad 5
-    ∷ "t 1 2 " says Bad 6
+    ∷ "t 1 2 x" says Bad 7
+    ∷ "t 1 2  cut 1" says Bad 7
+    ∷ "t 1 2 cut1" says Bad 10
+    ∷ "t 1 2 cut  1" says Bad 11
+    ∷ "t 1 2 cut x" says Bad 11
+    ∷ "t 1 2 cut 1 " says Bad 12
+    ∷ "t 1 2 Cut 1" says Bad 7
+    ∷ "t 1 cut 1" says Bad 5
     ∷ "t 1 2\r" says Bad 6
     ∷ "a - 2" says Bad 3
     ∷ "a 1-2" says Bad 4
+    ∷ "a 1 2 cut 10" says Bad 12
+    ∷ "a 1 2 cut -" says Bad 11
     ∷ "s 1 " says Bad 4
     ∷ "s 1 2" says Bad 4
+    ∷ "s 1 cut 0" says Bad 4
     ∷ "s 1\r" says Bad 4
     ∷ "s x" says Bad 3
     ∷ " " says Bad 1

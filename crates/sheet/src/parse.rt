@@ -2,7 +2,9 @@
 ghost use mathlib.Core.Path.{_≡_};
 ghost use Prim.Native.Nat.{_+_, _<_, _≤_};
 ghost use lib.ListN.{length, getD, drop};
-ghost use Rattle.sheet.specs.Parse.{opened, parsed, stands, fitting, columnFrom, digitAt, risen, viewFrom};
+ghost use Rattle.sheet.specs.Parse.{opened, parsed, stands, fitting, columnFrom, digitAt, risen, viewFrom, readOn};
+use plan::Action;
+use plan::Cut;
 use plan::Step;
 use view::ProcessId;
 use view::and;
@@ -15,7 +17,8 @@ pub enum Opening {
     Fresh(u8),
 }
 
-// Any other line: `r P VIEW`, `t Q P`, `a P Q` and `s P`, or bad, from this column on.
+// Any other line: `r P VIEW`, `t Q P` and `a P Q`, each alone or with ` cut K`, and `s P`; or bad, from
+// this column on.
 pub enum Line {
     Bad(usize),
     Step(Step),
@@ -57,7 +60,7 @@ fn reach(form: &[u8], l: &[u8], from: usize) -> usize
 // The column from which on a line is bad that must be of the form from a place on; 0 where it is
 // good.
 fn column(form: &[u8], l: &[u8], from: usize) -> usize
-    requires { ⌜ (length (now form) ≤ 9) × (from ≤ 9) ⌝ }
+    requires { ⌜ (length (now form) ≤ 9) × (from ≤ 12) ⌝ }
     ensures { λ r. ⌜ r ≡ columnFrom (now (form .entry)) (now (l .entry)) from ⌝ }
 {
     let at = reach(form, l, from);
@@ -137,6 +140,28 @@ pub fn parse_first(l: &[u8]) -> Opening
     }
 }
 
+// What a line says whose action is read up to a place: it ends there, or ` cut K` follows.
+fn read_on(action: Action, l: &[u8], from: usize) -> Line
+    requires { ⌜ from ≤ 12 ⌝ }
+    ensures { λ r. ⌜ r ≡ readOn action (now (l .entry)) from ⌝ }
+{
+    if l.len() == from {
+        return Line::Step(Step {
+            action,
+            cut: Cut::Whole,
+        });
+    }
+    let bad = column(b" cut K", l, from);
+    if bad == 0 {
+        Line::Step(Step {
+            action,
+            cut: Cut::After(digit_at(l, from + 5)),
+        })
+    } else {
+        Line::Bad(bad)
+    }
+}
+
 // What a line says that begins with `r`.
 fn parse_report(l: &[u8]) -> Line
     requires { ⌜ (0 < length (now l)) × (getD (now l) 0 0 ≡ 114) ⌝ }
@@ -147,11 +172,14 @@ fn parse_report(l: &[u8]) -> Line
         return Line::Bad(at + 1);
     }
     let field = view_at(l, 4);
-    let end = field.end;
-    if and(4 < end, end == l.len()) {
-        Line::Step(Step::Report(ProcessId(digit_at(l, 2)), field.view))
+    if 4 < field.end {
+        read_on(
+            Action::Report(ProcessId(digit_at(l, 2)), field.view),
+            l,
+            field.end,
+        )
     } else {
-        Line::Bad(end + 1)
+        Line::Bad(5)
     }
 }
 
@@ -160,12 +188,15 @@ fn parse_receive(l: &[u8]) -> Line
     requires { ⌜ (0 < length (now l)) × (getD (now l) 0 0 ≡ 116) ⌝ }
     ensures { λ r. ⌜ r ≡ parsed (now (l .entry)) ⌝ }
 {
-    let bad = column(b" Q P", l, 1);
-    if bad == 0 {
-        Line::Step(Step::Receive(ProcessId(digit_at(l, 2)), ProcessId(digit_at(l, 4))))
-    } else {
-        Line::Bad(bad)
+    let at = reach(b" Q P", l, 1);
+    if at < 5 {
+        return Line::Bad(at + 1);
     }
+    read_on(
+        Action::Receive(ProcessId(digit_at(l, 2)), ProcessId(digit_at(l, 4))),
+        l,
+        5,
+    )
 }
 
 // What a line says that begins with `a`.
@@ -173,12 +204,15 @@ fn parse_respond(l: &[u8]) -> Line
     requires { ⌜ (0 < length (now l)) × (getD (now l) 0 0 ≡ 97) ⌝ }
     ensures { λ r. ⌜ r ≡ parsed (now (l .entry)) ⌝ }
 {
-    let bad = column(b" P Q", l, 1);
-    if bad == 0 {
-        Line::Step(Step::Respond(ProcessId(digit_at(l, 2)), ProcessId(digit_at(l, 4))))
-    } else {
-        Line::Bad(bad)
+    let at = reach(b" P Q", l, 1);
+    if at < 5 {
+        return Line::Bad(at + 1);
     }
+    read_on(
+        Action::Respond(ProcessId(digit_at(l, 2)), ProcessId(digit_at(l, 4))),
+        l,
+        5,
+    )
 }
 
 // What a line says that begins with `s`.
@@ -188,7 +222,10 @@ fn parse_crash(l: &[u8]) -> Line
 {
     let bad = column(b" P", l, 1);
     if bad == 0 {
-        Line::Step(Step::Crash(ProcessId(digit_at(l, 2))))
+        Line::Step(Step {
+            action: Action::Crash(ProcessId(digit_at(l, 2))),
+            cut: Cut::Whole,
+        })
     } else {
         Line::Bad(bad)
     }

@@ -135,7 +135,7 @@ fn forms() {
     judge(b"odd_bytes");
 }
 
-// Stops, late answers, full lines, and agreements.
+// Stops, cut steps, late answers, full lines, and agreements.
 fn runs() {
     judge(b"second_stop");
     judge(b"late_retry");
@@ -146,6 +146,7 @@ fn runs() {
     judge(b"stale_acc");
     judge(b"stopped_sender");
     judge(b"stop_midway");
+    judge(b"cut");
     judge(b"eight_units");
     judge(b"apart");
 }

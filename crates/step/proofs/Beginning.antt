@@ -17,8 +17,7 @@ use Rattle.system.specs.Process.{entryAt, withEntry, noEntries, pendingAt, pend
 use Rattle.system.specs.System.{noProcess, processAt, channelNumber, channelAt}
 use Rattle.system.specs.Fresh.{freshVariables, freshProcess, freshSystem}
 use Rattle.sound.specs.Sound.{every, soundProposal, soundMessage, soundPending, soundChannel, soundHistory, soundVariables, soundProcess, soundChannelAt, soundAt, soundSystem}
-use Rattle.plan.specs.declared.Step.{Step}
-use Rattle.step.specs.Step.{ran}
+use Rattle.step.specs.Step.{Event, ran}
 use Rattle.step.proofs.Frames.{Shape}
 use Rattle.step.proofs.Soundness.{Valid}
 use Rattle.step.proofs.Cases.{waitingAt}
@@ -87,6 +86,6 @@ fresh-sound n e =
 pub fresh-valid : (n : ℕ) → isOneOf 8 n ≡ true → Valid (freshSystem n)
 fresh-valid n e = record { shape = fresh-shape n; sound = fresh-sound n e }
 
--- every system that steps reach is sound
-pub run-sound : (n : ℕ) → isOneOf 8 n ≡ true → (os : List Step) → soundSystem (ran (freshSystem n) os) ≡ true
-run-sound n e os = run-valid (freshSystem n) (fresh-valid n e) os .sound
+-- every system that events reach is sound
+pub run-sound : (n : ℕ) → isOneOf 8 n ≡ true → (es : List Event) → soundSystem (ran (freshSystem n) es) ≡ true
+run-sound n e es = run-valid (freshSystem n) (fresh-valid n e) es .sound

@@ -1,4 +1,4 @@
--- Carrying a plan out, inverted once for any plan: who may act, that the plan was not refused, and the effect.
+-- Carrying a plan out, inverted once for any plan, whole or cut: who may act, that the plan was not refused, and the effect.
 use Prim.Native.Nat.{ℕ, _+_, _≤_, _<_}
 use mathlib.Core.Path.{_≡_, refl, sym, _∙_, ap, subst}
 use mathlib.Core.Bool.{Bool, true, false, _&&_}
@@ -6,11 +6,11 @@ use mathlib.Core.List.{List, [], _∷_, _++_}
 use native.Mathlib.Omega.{arith}
 use borrow.Author.Tests.{ltb-true, eqb-true, eqb-false}
 use lib.ListN.{drop}
-use lib.Dec.{eqb}
+use lib.Dec.{ltb, eqb}
 use Rattle.view.specs.Logic.{pick, isOneOf}
-use Rattle.view.specs.View.{has}
+use Rattle.view.specs.View.{has, countOf}
 use Rattle.view.proofs.Laws.{one-of, by-pick, by-test, by-number, true-is-not-false, all-elim, length-put, and-left, and-right}
-use Rattle.view.proofs.Sets.{has-number}
+use Rattle.view.proofs.Sets.{has-number, count-none, first-has}
 use Rattle.channel.specs.declared.Message.{Message}
 use Rattle.channel.specs.declared.Channel.{Channel}
 use Rattle.channel.specs.Channel.{emptyChannel, waiting, pushed, popped}
@@ -21,9 +21,12 @@ use Rattle.system.specs.declared.Outcome.{Outcome}
 use Rattle.system.specs.Process.{asCrashed, withVariables, withEntry}
 use Rattle.system.specs.System.{processAt, variablesAt, withProcess, channelAt, withChannel, broadcasted, takesIfNamed, roomFor}
 use Rattle.plan.specs.declared.Change.{Change}
+use Rattle.plan.specs.declared.Cut.{Cut}
+use Rattle.plan.specs.declared.Cut.the-variants.{Whole, After}
 use Rattle.plan.specs.declared.Plan.{Plan}
 use Rattle.plan.specs.declared.Scope.{Scope}
 use Rattle.plan.specs.Plan.{changed}
+use Rattle.plan.specs.Cut.{cutShort, cutBy}
 use Rattle.step.specs.Step.{crashedAt, crashedIf, effected, takenOff, carriedOut, permitted}
 use Rattle.step.proofs.Frames.{Shape, Numbered, channels-stay, process-same, process-other, channel-same, channel-apart, shape-process, each-channel}
 use Rattle.step.proofs.Cases.{waitingAt, afterwards, Fate, stays, grows, empties, Effect, Known, Acts, Taken}
@@ -237,6 +240,26 @@ taken-first s shape q p from to short m ms e =
       others = λ a b h. ap waiting (channel-apart s shape q p from to (popped (channelAt s q p)) a b h);
     }
 
+-- Messages that are never sent: where p stops, an effect on some of the addressees is one on all of them. So what is proved of every
+-- transition is proved of those that are cut.
+never-sent : {s t : System} {left : ℕ → ℕ → List Message} {p : ℕ} {c : Change} {some to : ℕ} {m : Message} → ((b : ℕ) → has some b ≡ true → has to b ≡ true)
+    → Effect s t left p c true some m
+    → Effect s t left p c true to m
+never-sent inside f =
+    record {
+      shape = f .shape;
+      size = f .size;
+      actor = f .actor;
+      others = f .others;
+      told = f .told;
+      addressed = λ b h. inside b (f .addressed b h);
+      whole = λ e. true-is-not-false e;
+      channels = f .channels;
+      sent = f .sent;
+      silent = f .silent;
+      short = f .short;
+    }
+
 -- ---- any plan: the step is done where p may act, q is known, the plan is not refused and its message finds room
 pub record Carried (s t : System) (left : ℕ → ℕ → List Message) (p q : ℕ) (a : Plan) : Type 0 where
   pub acts : Acts s p
@@ -290,3 +313,38 @@ module _ (s : System) (valid : Valid s) where
       (λ full z. absurd (omega arith)))
       (λ refusal z. absurd (eqb-false (a .refusal) 0 refusal z))))
       (λ stranger z. absurd (omega arith))
+
+-- ---- any action, whose plan is a: whole, or cut
+pub record Performed (s t : System) (left : ℕ → ℕ → List Message) (p q : ℕ) (a : Plan) : Type 0 where
+  pub acts : Acts s p
+  pub partner : Known s q
+  pub plain : a .refusal ≡ 0
+  -- its process stops where it does as it plans, and where it is cut
+  pub stops : Bool
+  pub effect : a .change .variables .crashed ≡ variablesAt s p .crashed → Effect s t left p (a .change) stops (a .addressees) (a .message)
+  -- what sends nothing is never cut
+  pub quiet : a .addressees ≡ 0 → a .change .variables .crashed ≡ variablesAt s p .crashed
+      → Effect s t left p (a .change) (a .stops) (a .addressees) (a .message)
+
+pub performed : {s t : System} {left : ℕ → ℕ → List Message} {p q : ℕ} (cut : Cut) (a : Plan) → Carried s t left p q (cutBy cut a) → Performed s t left p q a
+unfolding cutBy cutShort
+performed Whole a =
+    λ k. record { acts = k .acts; partner = k .partner; plain = k .plain; stops = a .stops; effect = k .effect; quiet = λ none. k .effect }
+performed {s} {t} {left} {p} {q} (After n) a =
+    by-pick Of (eqb (a .refusal) 0) _ _
+    (λ plain.
+    by-pick Of (ltb n (countOf (a .addressees))) _ _
+    (λ early k.
+    record {
+      acts = k .acts;
+      partner = k .partner;
+      plain = eqb-true (a .refusal) 0 plain;
+      stops = true;
+      effect = λ calm. never-sent (first-has n (a .addressees)) (k .effect calm);
+      quiet = λ none. absurd (omega (arith, ltb-true n (countOf (a .addressees)) early, ap countOf none ∙ count-none));
+    })
+    (λ late k. absurd (omega (arith, k .plain))))
+    (λ refusal k. absurd (eqb-false (a .refusal) 0 refusal (k .plain)))
+  where
+    Of : Plan → Type 0
+    Of b = Carried s t left p q b → Performed s t left p q a

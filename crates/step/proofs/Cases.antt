@@ -1,4 +1,5 @@
--- The cases of a step: which of the eleven transitions of Figure 3 it was, and what it changed.
+-- The cases of a step: which of the eleven transitions of Figure 3 it was, and what it changed. One that sends may have been cut: then the
+-- process stops, and some of the addressees are told nothing.
 use Prim.Native.Nat.{ℕ, _≤_, _<_, _+_}
 use mathlib.Core.Path.{_≡_, refl}
 use mathlib.Core.Bool.{Bool, true, false, _||_}
@@ -17,8 +18,8 @@ use Rattle.system.specs.declared.System.{System}
 use Rattle.system.specs.Process.{index, withEntry, pendingAt, pendingSlot}
 use Rattle.system.specs.System.{processAt, variablesAt, channelAt}
 use Rattle.plan.specs.declared.Change.{Change}
-use Rattle.plan.specs.declared.Step.{Step}
-use Rattle.plan.specs.declared.Step.the-variants.{Report, Receive, Respond, Crash}
+use Rattle.plan.specs.declared.Action.{Action}
+use Rattle.plan.specs.declared.Action.the-variants.{Report, Receive, Respond, Crash}
 use Rattle.plan.specs.Fields.{withView, withNext, withAcks, proposing, reproposing}
 use Rattle.plan.specs.Plan.{assigning, recording, entering, noMessage}
 use Rattle.plan.specs.Scope.{scopeOf}
@@ -97,7 +98,8 @@ pub record Proposes (s t : System) (p : ProcessId) (v : ℕ) : Type 0 where
   pub own : has v (p .0) ≡ true
   pub least : leastOf v .0 ≡ p .0
   pub below : variablesAt s (p .0) .propout .0 < 32
-  pub effect : Effect s t (waitingAt s) (p .0) (assigning (proposing (variablesAt s (p .0)) v (variablesAt s (p .0) .propout .0 + 1))) false
+  pub stops : Bool
+  pub effect : Effect s t (waitingAt s) (p .0) (assigning (proposing (variablesAt s (p .0)) v (variablesAt s (p .0) .propout .0 + 1))) stops
       v (Propose v (index (variablesAt s (p .0) .propout .0 + 1)))
 
 -- local?(v_p), and not p = min(v_p)
@@ -133,7 +135,8 @@ pub record Reproposes (s t : System) (q p : ProcessId) : Type 0 where
   pub rises : old .0 < new .0
   pub below : new .0 ≤ 32
   pub proposed : has (variablesAt s (p .0) .proposal) (p .0) ≡ true
-  pub effect : Effect s t left (p .0) (assigning (reproposing (variablesAt s (p .0)) (new .0))) false
+  pub stops : Bool
+  pub effect : Effect s t left (p .0) (assigning (reproposing (variablesAt s (p .0)) (new .0))) stops
       (variablesAt s (p .0) .view) (Propose (variablesAt s (p .0) .view) new)
 
 -- R_q?Retry, else
@@ -177,7 +180,8 @@ pub record Commits (s t : System) (q p : ProcessId) : Type 0 where
   pub marking : Marking (variablesAt s (p .0)) (q .0) (index .0) acks
   pub proposed : has (variablesAt s (p .0) .proposal) (p .0) ≡ true
   pub complete : subset (variablesAt s (p .0) .proposal) acks ≡ true
-  pub effect : Effect s t left (p .0) (assigning (withAcks (variablesAt s (p .0)) 0)) false
+  pub stops : Bool
+  pub effect : Effect s t left (p .0) (assigning (withAcks (variablesAt s (p .0)) 0)) stops
       (variablesAt s (p .0) .proposal) (Commit (variablesAt s (p .0) .proposal) (variablesAt s (p .0) .propout))
 
 -- R_q?Commit
@@ -201,7 +205,8 @@ pub record Accepts (s t : System) (p q : ProcessId) : Type 0 where
   pub sound : SoundProposal (s .n) (q .0) (p .0) view (index .0)
   pub same : view ≡ variablesAt s (p .0) .view
   pub free : variablesAt s (p .0) .next .0 ≤ index .0
-  pub effect : Effect s t (waitingAt s) (p .0) (recording (withNext (variablesAt s (p .0)) (index .0 + 1)) q Nothing) false (with 0 (q .0)) (Acc index)
+  pub stops : Bool
+  pub effect : Effect s t (waitingAt s) (p .0) (recording (withNext (variablesAt s (p .0)) (index .0 + 1)) q Nothing) stops (with 0 (q .0)) (Acc index)
 
 -- Prop[q] ∧ (v[q] = v_p), and PropIn[q] < Next
 pub record Declines (s t : System) (p q : ProcessId) : Type 0 where
@@ -213,14 +218,15 @@ pub record Declines (s t : System) (p q : ProcessId) : Type 0 where
   pub sound : SoundProposal (s .n) (q .0) (p .0) view (index .0)
   pub same : view ≡ variablesAt s (p .0) .view
   pub late : index .0 < variablesAt s (p .0) .next .0
-  pub effect : Effect s t (waitingAt s) (p .0) (recording (variablesAt s (p .0)) q Nothing) false (with 0 (q .0)) (Retry index (variablesAt s (p .0) .next))
+  pub stops : Bool
+  pub effect : Effect s t (waitingAt s) (p .0) (recording (variablesAt s (p .0)) q Nothing) stops (with 0 (q .0)) (Retry index (variablesAt s (p .0) .next))
 
 -- the process stops
 pub record Crashes (s t : System) (p : ProcessId) : Type 0 where
   pub acts : Acts s (p .0)
   pub effect : Effect s t (waitingAt s) (p .0) (assigning (variablesAt s (p .0))) true 0 noMessage
 
-pub data Transition (s t : System) : Step → Type 0 where
+pub data Transition (s t : System) : Action → Type 0 where
   proposes : {p : ProcessId} {v : ℕ} → Proposes s t p v → Transition s t (Report p v)
   follows : {p : ProcessId} {v : ℕ} → Follows s t p v → Transition s t (Report p v)
   records : {q p : ProcessId} → Records s t q p → Transition s t (Receive q p)
@@ -250,7 +256,7 @@ outlined : {s t : System} {p : ℕ} {left : ℕ → ℕ → List Message} {c : C
 outlined {left} {c} {stops} {to} {m} acts effect calm =
     record { acts = acts; left = left; change = c; stops = stops; to = to; message = m; effect = effect; calm = calm }
 
-pub outline : {s t : System} {o : Step} → Transition s t o → Outline s t (scopeOf o .actor .0)
+pub outline : {s t : System} {o : Action} → Transition s t o → Outline s t (scopeOf o .actor .0)
 unfolding scopeOf
 outline (proposes r) = outlined (r .acts) (r .effect) refl
 outline (follows r) = outlined (r .acts) (r .effect) refl

@@ -1,4 +1,4 @@
--- A step done is one of the transitions: the plans, case by case.
+-- A step done, whole or cut, is one of the transitions: the plans, case by case.
 use Prim.Native.Nat.{ℕ, _≤_, _<_}
 use mathlib.Core.Path.{_≡_, refl, sym, _∙_, subst}
 use mathlib.Core.Bool.{true, not, _&&_}
@@ -24,24 +24,26 @@ use Rattle.system.specs.Process.{pendingAt}
 use Rattle.system.specs.System.{processAt, variablesAt, channelAt, withChannel, roomFor, done, refused}
 use Rattle.sound.specs.Sound.{soundMessage, soundPending, soundSystem}
 use Rattle.plan.specs.declared.Plan.{Plan}
+use Rattle.plan.specs.declared.Action.{Action}
+use Rattle.plan.specs.declared.Action.the-variants.{Report, Receive, Respond, Crash}
 use Rattle.plan.specs.declared.Step.{Step}
-use Rattle.plan.specs.declared.Step.the-variants.{Report, Receive, Respond, Crash}
 use Rattle.plan.specs.Plan.{reportPlan, committingPlan, messagePlan, receivePlan, respondPlan}
 use Rattle.plan.specs.Fields.{withAcks}
 use Rattle.plan.specs.Scope.{scopeOf}
+use Rattle.plan.specs.Cut.{cutBy}
 use Rattle.step.specs.Step.{planOf, takenOff, carriedOut, permitted, attempted, stepped}
 use Rattle.step.proofs.Cases.{waitingAt, Known, Taken, Marking, present, stale, Transition, proposes, follows, records, reproposes, ignores, marks, commits, enters, accepts, declines, crashes}
 use Rattle.step.proofs.Soundness.{SoundProposal, SoundProcess, Valid, proposal-facts, retry-facts, acc-facts}
-use Rattle.step.proofs.Carried.{Carried, sound, number, taken-first, carried}
+use Rattle.step.proofs.Carried.{sound, number, taken-first, carried, Performed, performed}
 
 -- ---- each plan
 -- a plan that is refused was not carried out
-never : {C : Type 0} {s t : System} {left : ℕ → ℕ → List Message} {p q : ℕ} {a : Plan} → Carried s t left p q a → 0 < a .refusal → C
+never : {C : Type 0} {s t : System} {left : ℕ → ℕ → List Message} {p q : ℕ} {a : Plan} → Performed s t left p q a → 0 < a .refusal → C
 never k h = absurd (omega (arith, k .plain))
 
 module _ (s : System) (valid : Valid s) (t : System) where
-  abbrev Case : (ℕ → ℕ → List Message) → ℕ → ℕ → Step → Plan → Type 0
-  Case left p q o a = Carried s t left p q a → Transition s t o
+  abbrev Case : (ℕ → ℕ → List Message) → ℕ → ℕ → Action → Plan → Type 0
+  Case left p q o a = Performed s t left p q a → Transition s t o
 
   own : (p : ℕ) → Known s p → SoundProcess (s .n) p (processAt s p)
   own p k = sound s valid .process p (k .low) (k .high)
@@ -64,6 +66,7 @@ module _ (s : System) (valid : Valid s) (t : System) where
         own = and-right (within (s .n) v) (has v (p .0)) named;
         least = eqb-true (leastOf v .0) (p .0) least;
         below = ltb-true (x .propout .0) 32 below;
+        stops = k .stops;
         effect = k .effect refl;
       }))
       (λ last k. never k (omega arith)))
@@ -74,7 +77,7 @@ module _ (s : System) (valid : Valid s) (t : System) where
         inside = and-left (within (s .n) v) (has v (p .0)) named;
         own = and-right (within (s .n) v) (has v (p .0)) named;
         other = eqb-false (leastOf v .0) (p .0) other;
-        effect = k .effect refl;
+        effect = k .quiet refl refl;
       })))
       (λ odd k. never k (omega arith))
 
@@ -107,6 +110,7 @@ module _ (s : System) (valid : Valid s) (t : System) where
         sound = recorded-proposal p q v i e (k .acts .known) (k .partner);
         same = eqb-true v (x .view) same;
         late = ltb-true (i .0) (x .next .0) late;
+        stops = k .stops;
         effect = k .effect refl;
       }))
       (λ free.
@@ -122,6 +126,7 @@ module _ (s : System) (valid : Valid s) (t : System) where
         sound = recorded-proposal p q v i e (k .acts .known) (k .partner);
         same = eqb-true v (x .view) same;
         free = ltb-false (i .0) (x .next .0) free;
+        stops = k .stops;
         effect = k .effect refl;
       }))
       (λ beyond k. never k (omega arith))))
@@ -153,6 +158,7 @@ module _ (s : System) (valid : Valid s) (t : System) where
           marking = marking;
           proposed = was-proposed (p .0) (k .acts .known) (eqb-false (x .proposal) 0 (not-true _ (and-left some (subset (x .proposal) acks) both)));
           complete = and-right some (subset (x .proposal) acks) both;
+          stops = k .stops;
           effect = k .effect refl;
         }))
         (λ part k.
@@ -167,7 +173,7 @@ module _ (s : System) (valid : Valid s) (t : System) where
           acks = acks;
           marking = marking;
           partial = λ h. rw (ne-eqb (x .proposal) 0 h) at part;
-          effect = k .effect refl;
+          effect = k .quiet refl refl;
         }))
 
     message-cases : (m : Message) → Taken s (q .0) (p .0) m left → soundMessage (s .n) (q .0) (p .0) m ≡ true
@@ -183,7 +189,7 @@ module _ (s : System) (valid : Valid s) (t : System) where
           left = left;
           taken = taken;
           sound = proposal-facts (s .n) (q .0) (p .0) v (i .0) e;
-          effect = k .effect refl;
+          effect = k .quiet refl refl;
         })
     message-cases (Retry old new) taken e =
         let x = variablesAt s (p .0) in
@@ -210,6 +216,7 @@ module _ (s : System) (valid : Valid s) (t : System) where
           rises = f .2;
           below = leb-true (new .0) 32 below;
           proposed = own (p .0) (k .acts .known) .variables .own-proposed (λ one. omega (arith, f, at-old));
+          stops = k .stops;
           effect = k .effect refl;
         }))
         (λ last k. never k (omega arith)))
@@ -223,7 +230,7 @@ module _ (s : System) (valid : Valid s) (t : System) where
           left = left;
           taken = taken;
           idle = λ a b. true-is-not-false (sym (and-intro (eq-eqb (x .propout .0) (old .0) a) (eq-eqb (leastOf (x .view) .0) (p .0) b)) ∙ other);
-          effect = k .effect refl;
+          effect = k .quiet refl refl;
         }))
     message-cases (Acc i) taken e =
         let x = variablesAt s (p .0) in
@@ -241,7 +248,7 @@ module _ (s : System) (valid : Valid s) (t : System) where
           left = left;
           taken = taken;
           sound = proposal-facts (s .n) (q .0) (p .0) v (i .0) e;
-          effect = k .effect refl;
+          effect = k .quiet refl refl;
         })
 
   receive-cases : (q p : ProcessId) (ms : List Message) → waitingAt s (q .0) (p .0) ≡ ms
@@ -258,12 +265,12 @@ module _ (s : System) (valid : Valid s) (t : System) where
       (subst (Each (λ n. soundMessage (s .n) (q .0) (p .0) n ≡ true)) e (c .messages) .0)
       k
 
-  cases : (o : Step) → Carried s t (waitingAt (takenOff s (scopeOf o))) (scopeOf o .actor .0) (scopeOf o .partner .0) (planOf s o) → Transition s t o
+  cases : (o : Action) → Performed s t (waitingAt (takenOff s (scopeOf o))) (scopeOf o .actor .0) (scopeOf o .partner .0) (planOf s o) → Transition s t o
   unfolding planOf scopeOf takenOff pick
   cases (Report p v) k = report-cases p v k
   cases (Receive q p) k = receive-cases q p (waitingAt s (q .0) (p .0)) refl k
   cases (Respond p q) k = respond-cases p q (pendingAt (processAt s (p .0)) (q .0)) refl k
-  cases (Crash p) k = crashes (record { acts = k .acts; effect = k .effect refl })
+  cases (Crash p) k = crashes (record { acts = k .acts; effect = k .quiet refl refl })
 
 -- ---- the step
 -- on a sound system the step is what is attempted
@@ -272,19 +279,21 @@ unfolding stepped pick
 sound-stepped s o e = rw e
 
 -- a step done on a valid system is one of the transitions
-pub transition : (s : System) (o : Step) → Valid s → stepped s o .refusal ≡ 0 → Transition s (stepped s o .system) o
+pub transition : (s : System) (o : Step) → Valid s → stepped s o .refusal ≡ 0 → Transition s (stepped s o .system) (o .action)
 unfolding attempted
 transition s o valid =
-    subst (λ (a : Outcome). a .refusal ≡ 0 → Transition s (a .system) o) (sym (sound-stepped s o (valid .sound)))
-    (λ e. cases s valid (attempted s o .system) o (carried s valid (scopeOf o) (planOf s o) e))
+    subst (λ (a : Outcome). a .refusal ≡ 0 → Transition s (a .system) (o .action)) (sym (sound-stepped s o (valid .sound)))
+    (λ e.
+    cases s valid (attempted s o .system) (o .action)
+    (performed (o .cut) (planOf s (o .action)) (carried s valid (scopeOf (o .action)) (cutBy (o .cut) (planOf s (o .action))) e)))
 
 -- a step is done, or it is refused: then the system comes back as it was
 pub done-or-refused : (s : System) (o : Step) → (stepped s o .refusal ≡ 0) ⊎ (stepped s o ≡ refused (stepped s o .refusal) s)
 unfolding stepped attempted permitted carriedOut
 done-or-refused s o =
     let P : Outcome → Type 0 = λ (a : Outcome). (a .refusal ≡ 0) ⊎ (a ≡ refused (a .refusal) s) in
-    let c = scopeOf o in
-    let a = planOf s o in
+    let c = scopeOf (o .action) in
+    let a = cutBy (o .cut) (planOf s (o .action)) in
     by-pick P (soundSystem s) _ _
     (λ w.
     by-pick P (isOneOf (s .n) (c .actor .0) && isOneOf (s .n) (c .partner .0)) _ _
@@ -299,7 +308,7 @@ done-or-refused s o =
     (λ w. inr refl)
 
 -- so: what is so of the system after each transition, and of each refusal, is so of the outcome
-pub by-outcome : (P : Outcome → Type 0) (s : System) (o : Step) → Valid s → ((t : System) → Transition s t o → P (done t))
+pub by-outcome : (P : Outcome → Type 0) (s : System) (o : Step) → Valid s → ((t : System) → Transition s t (o .action) → P (done t))
     → ((k : ℕ) → (k ≡ 0 → ⊥) → P (refused k s))
     → P (stepped s o)
 by-outcome P s o valid did not-done =

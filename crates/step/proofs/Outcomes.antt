@@ -10,7 +10,7 @@ use borrow.Author.Tests.{le-leb}
 use lib.Dec.{leb, ltb, eqb}
 use Rattle.view.specs.declared.ProcessId.{ProcessId}
 use Rattle.view.specs.Logic.{pick, isOneOf}
-use Rattle.view.specs.View.{has, within, subset, leastOf}
+use Rattle.view.specs.View.{has, within, subset, leastOf, countOf}
 use Rattle.view.proofs.Laws.{by-pick, one-of, and-left, and-right, or-right, true-is-not-false}
 use Rattle.channel.specs.declared.Message.{Message}
 use Rattle.channel.specs.declared.Message.the-variants.{Propose, Retry, Acc, Commit}
@@ -26,15 +26,19 @@ use Rattle.system.specs.System.{processAt, variablesAt, channelAt, roomFor, ref
 use Rattle.sound.specs.Sound.{soundPending, soundSystem}
 use Rattle.plan.specs.declared.Plan.{Plan}
 use Rattle.plan.specs.declared.Scope.{Scope}
+use Rattle.plan.specs.declared.Action.{Action}
+use Rattle.plan.specs.declared.Action.the-variants.{Report, Receive, Respond, Crash}
+use Rattle.plan.specs.declared.Cut.{Cut}
+use Rattle.plan.specs.declared.Cut.the-variants.{Whole, After}
 use Rattle.plan.specs.declared.Step.{Step}
-use Rattle.plan.specs.declared.Step.the-variants.{Report, Receive, Respond, Crash}
 use Rattle.plan.specs.Plan.{reportPlan, committingPlan, messagePlan, receivePlan, respondPlan}
 use Rattle.plan.specs.Scope.{scopeOf}
-use Rattle.step.specs.Step.{planOf, takenOff, permitted, carriedOut, attempted, stepped, ran}
+use Rattle.plan.specs.Cut.{cutShort, cutBy}
+use Rattle.step.specs.Step.{planOf, takenOff, permitted, carriedOut, attempted, stepped, Event, does, happened, ran}
 use Rattle.step.proofs.Soundness.{Sound, Valid, sound-facts, proposal-facts}
 use Rattle.step.proofs.Cases.{Transition, outline}
 use Rattle.step.proofs.Inversion.{sound-stepped, done-or-refused, by-outcome}
-use Rattle.step.proofs.SoundSteps.{step-sound}
+use Rattle.step.proofs.SoundSteps.{event-valid}
 
 -- demand 1, of every system and every step: 0, or the same system
 pub zero-or-same : (s : System) (o : Step) → (stepped s o .refusal ≡ 0) ⊎ (stepped s o .system ≡ s)
@@ -48,7 +52,7 @@ among (a ∷ rest) k = eqb k a || among rest k
 
 -- what a step answers on a sound system: 0, or a number of the refusal table other than 1; 8 and 9 are a sheet's
 abbrev pub soundAnswers : List ℕ
-soundAnswers = 0 ∷ 2 ∷ 3 ∷ 4 ∷ 5 ∷ 6 ∷ 7 ∷ 10 ∷ 11 ∷ []
+soundAnswers = 0 ∷ 2 ∷ 3 ∷ 4 ∷ 5 ∷ 6 ∷ 7 ∷ 10 ∷ 11 ∷ 12 ∷ []
 
 -- and on any system
 abbrev pub answers : List ℕ
@@ -96,6 +100,14 @@ respond-told n p q x (Proposal v i) sound =
     (λ c. true-is-not-false (sym (le-leb (i .0) 32 (proposal-facts n (q .0) p v (i .0) sound .high)) ∙ c))))
     (λ a. refl)
 
+cut-told : (cut : Cut) (a : Plan) → Told a → Told (cutBy cut a)
+unfolding among cutBy cutShort
+cut-told Whole a h = h
+cut-told (After k) a h =
+    by-pick Told (eqb (a .refusal) 0) _ _
+    (λ b. by-pick Told (ltb k (countOf (a .addressees))) _ _ (λ c. refl) (λ c. refl))
+    (λ b. h)
+
 abbrev Answer : Outcome → Type 0
 Answer o = among soundAnswers (o .refusal) ≡ true
 
@@ -115,7 +127,7 @@ permitted-told s c a h =
     (λ y. h (and-left to from w) (and-right to from w))))
     (λ w. refl)
 
-plan-told : (s : System) → Sound s → (o : Step) → isOneOf (s .n) (scopeOf o .actor .0) ≡ true → isOneOf (s .n) (scopeOf o .partner .0) ≡ true → Told (planOf s o)
+plan-told : (s : System) → Sound s → (o : Action) → isOneOf (s .n) (scopeOf o .actor .0) ≡ true → isOneOf (s .n) (scopeOf o .partner .0) ≡ true → Told (planOf s o)
 unfolding among planOf scopeOf
 plan-told s sound (Report p v) a b = report-told (s .n) (p .0) v (variablesAt s (p .0))
 plan-told s sound (Receive q p) a b = receive-told q (p .0) (variablesAt s (p .0)) (waiting (channelAt s (q .0) (p .0)))
@@ -127,7 +139,8 @@ plan-told s sound (Crash p) a b = refl
 
 attempted-told : (s : System) → Sound s → (o : Step) → Answer (attempted s o)
 unfolding attempted
-attempted-told s sound o = permitted-told s (scopeOf o) (planOf s o) (plan-told s sound o)
+attempted-told s sound o =
+    permitted-told s (scopeOf (o .action)) (cutBy (o .cut) (planOf s (o .action))) (λ a b. cut-told (o .cut) _ (plan-told s sound (o .action) a b))
 
 -- a sound system is never called unsound
 pub sound-not-1 : (s : System) (o : Step) → soundSystem s ≡ true → stepped s o .refusal ≡ 1 → ⊥
@@ -149,17 +162,21 @@ number-listed s o =
     (λ e. refl)
 
 -- ---- stopped for good
-stays-stopped : {s t : System} {o : Step} → Transition s t o → (k : ℕ) → variablesAt s k .crashed ≡ true → variablesAt t k .crashed ≡ true
+stays-stopped : {s t : System} {o : Action} → Transition s t o → (k : ℕ) → variablesAt s k .crashed ≡ true → variablesAt t k .crashed ≡ true
 stays-stopped {s} {t} r k crashed =
     let w = outline r in
     ap (λ (x : Process). x .variables .crashed)
     (w .effect .others k (λ e. true-is-not-false (sym (subst (λ (j : ℕ). variablesAt s j .crashed ≡ true) e crashed) ∙ w .acts .live)))
     ∙ crashed
 
--- a process that has crashed is crashed after every list of steps
-pub stopped-for-good : (s : System) → Valid s → (os : List Step) (k : ℕ) → variablesAt s k .crashed ≡ true → variablesAt (ran s os) k .crashed ≡ true
+still-stopped : (s : System) → Valid s → (e : Event) (k : ℕ) → variablesAt s k .crashed ≡ true → variablesAt (happened s e .system) k .crashed ≡ true
+unfolding happened
+still-stopped s valid (does o) k crashed =
+    by-outcome (λ (a : Outcome). variablesAt (a .system) k .crashed ≡ true) s o valid (λ t r. stays-stopped r k crashed) (λ j n. crashed)
+
+-- a process that has crashed is crashed after every list of events
+pub stopped-for-good : (s : System) → Valid s → (es : List Event) (k : ℕ) → variablesAt s k .crashed ≡ true → variablesAt (ran s es) k .crashed ≡ true
 unfolding ran
 stopped-for-good s valid [] k crashed = crashed
-stopped-for-good s valid (o ∷ os) k crashed =
-    stopped-for-good (stepped s o .system) (step-sound s o valid) os k
-    (by-outcome (λ (a : Outcome). variablesAt (a .system) k .crashed ≡ true) s o valid (λ t r. stays-stopped r k crashed) (λ j n. crashed))
+stopped-for-good s valid (e ∷ es) k crashed =
+    stopped-for-good (happened s e .system) (event-valid s e valid) es k (still-stopped s valid e k crashed)

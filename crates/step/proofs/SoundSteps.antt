@@ -25,11 +25,12 @@ use Rattle.system.specs.Process.{index, entryAt}
 use Rattle.system.specs.System.{processAt, variablesAt, channelAt}
 use Rattle.sound.specs.Sound.{soundMessage, soundPending}
 use Rattle.plan.specs.declared.Change.{Change}
+use Rattle.plan.specs.declared.Action.{Action}
+use Rattle.plan.specs.declared.Action.the-variants.{Report, Receive, Respond, Crash}
 use Rattle.plan.specs.declared.Step.{Step}
-use Rattle.plan.specs.declared.Step.the-variants.{Report, Receive, Respond, Crash}
 use Rattle.plan.specs.Fields.{withView, withNext, withAcks, proposing, reproposing}
 use Rattle.plan.specs.Plan.{assigning, recording, entering, noMessage}
-use Rattle.step.specs.Step.{stepped, ran}
+use Rattle.step.specs.Step.{stepped, Event, does, happened, ran}
 use Rattle.step.proofs.Soundness.{SoundProposal, SoundVariables, SoundProcess, SoundChannel, Sound, Valid, sound-facts, facts-sound, proposal-sound}
 use Rattle.step.proofs.Cases.{waitingAt, Acts, afterwards, Fate, stays, grows, empties, Effect, Marking, present, stale, Transition, proposes, follows, records, reproposes, ignores, marks, commits, enters, accepts, declines, crashes}
 use Rattle.step.proofs.Effects.{Part, all-left, taken-left, each-process, each-on, each-pending, each-entry}
@@ -276,7 +277,7 @@ module _ (s t : System) (valid : Valid s) where
   now : (p : ℕ) → Acts s p → SoundVariables (s .n) p (variablesAt s p)
   now p a = sound-facts s (valid .sound) .process p (a .known .low) (a .known .high) .variables
 
-  transition-sound : (o : Step) → Transition s t o → Valid t
+  transition-sound : (o : Action) → Transition s t o → Valid t
   transition-sound (Report p v) (proposes r) =
       let f = now (p .0) (r .acts) in
       let i = variablesAt s (p .0) .propout .0 + 1 in
@@ -330,9 +331,13 @@ module _ (s t : System) (valid : Valid s) where
 
 -- "a step on a sound system gives a sound system", refused ones too
 pub step-sound : (s : System) (o : Step) → Valid s → Valid (stepped s o .system)
-step-sound s o valid = by-outcome (λ (a : Outcome). Valid (a .system)) s o valid (λ t r. transition-sound s t valid o r) (λ k n. valid)
+step-sound s o valid = by-outcome (λ (a : Outcome). Valid (a .system)) s o valid (λ t r. transition-sound s t valid (o .action) r) (λ k n. valid)
 
-pub run-valid : (s : System) → Valid s → (os : List Step) → Valid (ran s os)
+pub event-valid : (s : System) (e : Event) → Valid s → Valid (happened s e .system)
+unfolding happened
+event-valid s (does o) valid = step-sound s o valid
+
+pub run-valid : (s : System) → Valid s → (es : List Event) → Valid (ran s es)
 unfolding ran
 run-valid s valid [] = valid
-run-valid s valid (o ∷ os) = run-valid (stepped s o .system) (step-sound s o valid) os
+run-valid s valid (e ∷ es) = run-valid (happened s e .system) (event-valid s e valid) es

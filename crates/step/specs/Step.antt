@@ -1,4 +1,4 @@
--- One step of any kind on any system, and a list of steps.
+-- One step of any kind on any system, and a list of events.
 use Prim.Native.Nat.{ℕ}
 use mathlib.Core.Bool.{Bool, _&&_}
 use mathlib.Core.List.{List, [], _∷_}
@@ -12,13 +12,15 @@ use Rattle.system.specs.System.{processAt, variablesAt, withProcess, channelAt,
 use Rattle.sound.specs.Sound.{soundSystem}
 use Rattle.plan.specs.declared.Plan.{Plan}
 use Rattle.plan.specs.declared.Scope.{Scope}
+use Rattle.plan.specs.declared.Action.{Action}
+use Rattle.plan.specs.declared.Action.the-variants.{Report, Receive, Respond, Crash}
 use Rattle.plan.specs.declared.Step.{Step}
-use Rattle.plan.specs.declared.Step.the-variants.{Report, Receive, Respond, Crash}
 use Rattle.plan.specs.Plan.{changed, reportPlan, receivePlan, respondPlan, crashPlan}
 use Rattle.plan.specs.Scope.{scopeOf}
+use Rattle.plan.specs.Cut.{cutBy}
 
--- what the acting process plans
-unfoldable pub planOf : System → Step → Plan
+-- what the acting process plans, where it is not cut
+unfoldable pub planOf : System → Action → Plan
 planOf s (Report p v) = reportPlan (s .n) (p .0) v (variablesAt s (p .0))
 planOf s (Receive q p) = receivePlan q (p .0) (variablesAt s (p .0)) (front (channelAt s (q .0) (p .0)))
 planOf s (Respond p q) = respondPlan q (variablesAt s (p .0)) (pendingAt (processAt s (p .0)) (q .0))
@@ -63,13 +65,21 @@ permitted s c a =
 
 -- the step, on a system taken to be sound
 unfoldable pub attempted : System → Step → Outcome
-attempted s o = permitted s (scopeOf o) (planOf s o)
+attempted s o = permitted s (scopeOf (o .action)) (cutBy (o .cut) (planOf s (o .action)))
 
 -- the step. Refusal 1: "the table is not sound"
 unfoldable pub stepped : System → Step → Outcome
 stepped s o = unless (soundSystem s) (refused 1 s) (attempted s o)
 
--- the system after a list of steps, "each handed the table that the one before returned"
-unfoldable pub ran : System → List Step → System
+-- What happens to a system: a step, whole or cut. This is a type of the definitions alone, so that an event can hold what no enum of the
+-- program can, such as a list.
+pub data Event : Type 0 where
+  does : Step → Event
+
+unfoldable pub happened : System → Event → Outcome
+happened s (does o) = stepped s o
+
+-- the system after a list of events, "each handed the table that the one before returned"
+unfoldable pub ran : System → List Event → System
 ran s [] = s
-ran s (o ∷ os) = ran (stepped s o .system) os
+ran s (e ∷ es) = ran (happened s e .system) es

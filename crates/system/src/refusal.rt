@@ -35,3 +35,6 @@ pub const NO_RECORD: u8 = 10;
 
 // "and so does one whose recorded view is not the local view"
 pub const OTHER_VIEW: u8 = 11;
+
+// "cut too late, if k is not below that number": the number of messages that the step would send
+pub const CUT_TOO_LATE: u8 = 12;

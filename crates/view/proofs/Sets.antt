@@ -6,11 +6,12 @@ use mathlib.Core.Logic.{_⊎_, inl, inr, ⊎-elim}
 use native.Mathlib.Omega.{arith}
 use native.Mathlib.Nat.{zero-div, zero-mod, mod-lt}
 use borrow.Author.Tests.{eqb-true, leb-true, le-leb}
-use lib.Dec.{eqb, leb}
+use lib.Dec.{eqb, leb, ltb}
+use lib.Count.{ones, onesIn}
 use lib.Bits.{bitAnd, bitOr, and-shr, or-shr, and-mod, or-mod}
-use Rattle.view.specs.Logic.{pick, isOneOf}
-use Rattle.view.specs.View.{has, within, subset, with}
-use Rattle.view.proofs.Laws.{and-left, and-right, and-intro, one-of, all-elim, all-intro, or-cases, true-is-not-false}
+use Rattle.view.specs.Logic.{pick, eachUpTo, isOneOf}
+use Rattle.view.specs.View.{has, within, subset, with, countedAt, countOf, joined, firstOf}
+use Rattle.view.proofs.Laws.{and-left, and-right, and-intro, one-of, all-elim, all-intro, or-cases, true-is-not-false, by-pick, each-keeps}
 use Rattle.view.proofs.Table.{everyBelow, below}
 
 -- a process that a view names has a number from 1 to 8
@@ -143,3 +144,32 @@ within-none n = within-if n 0 (λ k e. absurd (has-none k e))
 
 pub within-with : (n v q : ℕ) → within n v ≡ true → 1 ≤ q → q ≤ n → q ≤ 8 → within n (with v q) ≡ true
 within-with n v q inside l h b = within-if n (with v q) (λ k e. ⊎-elim (has-inside n v k inside) (λ same. omega arith) (has-with v q k l b e))
+
+-- ---- how many, and the first of them
+-- the machine's count of a byte's bits
+pub count-ones : (v : ℕ) → v < 256 → ones v ≡ countOf v
+unfolding ones onesIn countOf countedAt eachUpTo has pick
+count-ones v h = eqb-true _ _ (below 256 (λ w. eqb (ones w) (countOf w)) refl v h)
+
+pub few-ones : (v : ℕ) → v < 256 → ones v ≤ 8
+unfolding ones onesIn
+few-ones v h = leb-true _ _ (below 256 (λ w. leb (ones w) 8) refl v h)
+
+pub count-none : countOf 0 ≡ 0
+unfolding countOf countedAt eachUpTo has pick
+count-none = refl
+
+-- the first of a view are of the view
+pub first-has : (m v u : ℕ) → has (firstOf m v) u ≡ true → has v u ≡ true
+unfolding firstOf joined
+first-has m v u =
+    each-keeps Inside 8 (joined m v)
+    (λ k l h w inside.
+    by-pick Inside (has v k && ltb (countOf w) m) _ _
+    (λ e named. ⊎-elim inside (λ (same : u ≡ k). subst (λ (j : ℕ). has v j ≡ true) (sym same) (and-left (has v k) (ltb (countOf w) m) e)) (has-with w k u l h named))
+    (λ e. inside))
+    0
+    (λ named. absurd (has-none u named))
+  where
+    Inside : ℕ → Type 0
+    Inside w = has w u ≡ true → has v u ≡ true

@@ -1,11 +1,11 @@
 -- Document 01: "A view is a set of units, kept as one byte: unit 1 is the lowest bit."
 -- A unit is called a process here, as in the paper.
-use Prim.Native.Nat.{ℕ, zero, suc, _-_, _/_, _%_, _^_}
+use Prim.Native.Nat.{ℕ, zero, suc, _+_, _-_, _/_, _%_, _^_}
 use mathlib.Core.Bool.{Bool, _&&_, _||_, not}
-use lib.Dec.{leb, eqb}
+use lib.Dec.{leb, ltb, eqb}
 use lib.Bits.{bitAnd, bitOr}
 use Rattle.view.specs.declared.ProcessId.{ProcessId}
-use Rattle.view.specs.Logic.{pick, allUpTo, isOneOf}
+use Rattle.view.specs.Logic.{pick, allUpTo, eachUpTo, isOneOf}
 
 -- the view names process k: bit k - 1 is set
 unfoldable pub has : ℕ → ℕ → Bool
@@ -35,3 +35,19 @@ firstFrom (suc n) k v = pick (has v k) k (firstFrom n (suc k) v)
 -- "the least unit of each of the 256 views .., 0 for the empty view"
 unfoldable pub leastOf : ℕ → ProcessId
 leastOf v = record { 0 = firstFrom 8 1 v }
+
+-- one more, where the view names process k
+unfoldable pub countedAt : ℕ → ℕ → ℕ → ℕ
+countedAt v k c = pick (has v k) (c + 1) c
+
+-- how many processes the view names
+unfoldable pub countOf : ℕ → ℕ
+countOf v = eachUpTo 8 (countedAt v) 0
+
+-- process k joins a set w of fewer than m, where the view names it
+unfoldable pub joined : ℕ → ℕ → ℕ → ℕ → ℕ
+joined m v k w = pick (has v k && ltb (countOf w) m) (with w k) w
+
+-- the first m processes of the view, in rising order; all of it where it names no more
+unfoldable pub firstOf : ℕ → ℕ → ℕ
+firstOf m v = eachUpTo 8 (joined m v) 0

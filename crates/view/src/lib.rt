@@ -2,7 +2,7 @@
 ghost use mathlib.Core.Path.{_≡_};
 ghost use mathlib.Core.Bool.{_&&_, _||_};
 ghost use Rattle.view.specs.Logic.{isOneOf, placeOf};
-ghost use Rattle.view.specs.View.{has, within, subset, with, everyone, leastOf};
+ghost use Rattle.view.specs.View.{has, within, subset, with, everyone, leastOf, countOf, joined, firstOf};
 
 // Document 01: "A unit's number and a position in the history each keep a kind of their own".
 // The number of a process, counted from 1.
@@ -353,4 +353,35 @@ pub fn least(view: u8) -> ProcessId
     ensures { λ r. ⌜ r ≡ leastOf view ⌝ }
 {
     ProcessId(LEAST[view as usize])
+}
+
+// How many processes a view names.
+pub fn count(view: u8) -> u8
+    ensures { λ r. ⌜ r ≡ countOf view ⌝ }
+{
+    u8::count_ones(view) as u8
+}
+
+// The process joins a set of fewer than m, where the view names it.
+fn join(m: u8, view: u8, p: ProcessId, set: u8) -> u8
+    ensures { λ r. ⌜ r ≡ joined m view (p .0) set ⌝ }
+{
+    if and(has(view, p), count(set) < m) {
+        with(set, p)
+    } else {
+        set
+    }
+}
+
+// The first m processes of a view, in rising order; all of it where it names no more.
+pub fn first_of(m: u8, view: u8) -> u8
+    ensures { λ r. ⌜ r ≡ firstOf m view ⌝ }
+{
+    let mut set = 0;
+    let mut i: u8 = 0;
+    while i < 8 {
+        i += 1;
+        set = join(m, view, ProcessId(i), set);
+    }
+    set
 }

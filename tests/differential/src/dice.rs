@@ -1,16 +1,17 @@
 //! Steps by chance, from a seed.
 
-use reference::{GroupIndex, ProcessId, Step, System, View};
+use reference::{Action, GroupIndex, ProcessId, Step, System, View};
 
 /// A small generator (xorshift).
 pub struct Dice(u64);
 
-/// How steps are mixed: how many of a hundred are reports, and who hardly ever takes a message
-/// (process 0: nobody).
+/// How steps are mixed: how many of a hundred are reports, who hardly ever takes a message (process 0:
+/// nobody), and one of how many steps is cut (0: none).
 #[derive(Clone, Copy)]
 pub struct Mix {
     pub reports: usize,
     pub slow: ProcessId,
+    pub cuts: usize,
 }
 
 impl Dice {
@@ -76,46 +77,59 @@ impl Dice {
 
     pub fn mix(&mut self, n: u8) -> Mix {
         let slow = if self.one_in(2) { self.one_of(n) } else { ProcessId(0) };
-        Mix { reports: self.pick(&[2, 8, 30]), slow }
+        Mix { reports: self.pick(&[2, 8, 30]), slow, cuts: self.pick(&[0, 0, 60, 12]) }
     }
 
-    /// A step of any kind, all four alike often.
-    pub fn any_step(&mut self, n: u8) -> Step {
-        let (p, q) = (self.process(n), self.process(n));
-        match self.roll(4) {
-            0 => Step::Report { p, view: self.view(n, p) },
-            1 => Step::Receive { from: q, at: p },
-            2 => Step::Respond { p, to: q },
-            _ => Step::Crash { p },
+    /// The action, whole, or now and then cut after a count that may be too high.
+    pub fn cut(&mut self, action: Action, cuts: usize) -> Step {
+        match cuts > 0 && self.one_in(cuts) {
+            true => action.cut(self.pick(&[0, 0, 0, 1, 1, 2, 3, 4, 5, 6, 7, 8, 9])),
+            false => action.into(),
         }
     }
 
-    fn step(&mut self, n: u8, mix: Mix) -> Step {
+    /// A step of any kind, all four alike often, some of them cut.
+    pub fn any_step(&mut self, n: u8) -> Step {
+        let action = self.any_action(n);
+        self.cut(action, 4)
+    }
+
+    fn any_action(&mut self, n: u8) -> Action {
+        let (p, q) = (self.process(n), self.process(n));
+        match self.roll(4) {
+            0 => Action::Report { p, view: self.view(n, p) },
+            1 => Action::Receive { from: q, at: p },
+            2 => Action::Respond { p, to: q },
+            _ => Action::Crash { p },
+        }
+    }
+
+    fn action(&mut self, n: u8, mix: Mix) -> Action {
         let (p, q) = (self.process(n), self.process(n));
         let roll = self.roll(100);
         if roll < mix.reports {
-            Step::Report { p, view: self.view(n, p) }
+            Action::Report { p, view: self.view(n, p) }
         } else if roll < 70 && (p != mix.slow || self.one_in(12)) {
-            Step::Receive { from: q, at: p }
+            Action::Receive { from: q, at: p }
         } else if self.one_in(150) {
-            Step::Crash { p }
+            Action::Crash { p }
         } else if self.one_in(300) {
-            Step::Crash { p: ProcessId(9 * self.roll(2) as u8) }
+            Action::Crash { p: ProcessId(9 * self.roll(2) as u8) }
         } else {
-            Step::Respond { p, to: q }
+            Action::Respond { p, to: q }
         }
     }
 
     /// A step that is likelier to be done: rolled again a few times while there is nothing for it.
     pub fn likely_step(&mut self, system: &System, mix: Mix) -> Step {
-        let mut step = self.step(system.n, mix);
+        let mut action = self.action(system.n, mix);
         for _ in 0..self.roll(8) {
-            if something_there(system, step) {
+            if something_there(system, action) {
                 break;
             }
-            step = self.step(system.n, mix);
+            action = self.action(system.n, mix);
         }
-        step
+        self.cut(action, mix.cuts)
     }
 
     /// Steps from a fresh system that chance hardly ever makes. First q goes ahead alone. Then it
@@ -123,42 +137,51 @@ impl Dice {
     /// answers at the end, with a Retry that may find the lines from p full; or q answers each, and
     /// the answers wait until their line is full.
     pub fn opening(&mut self, n: u8) -> Vec<Step> {
+        let mut steps: Vec<Step> = self.opened(n).into_iter().map(Step::from).collect();
+        // The last one may be cut: often it takes a Retry.
+        if let Some(last) = steps.last_mut() {
+            *last = self.cut(last.action, 3);
+        }
+        steps
+    }
+
+    fn opened(&mut self, n: u8) -> Vec<Action> {
         let q = self.one_of(n);
-        let own = Step::Receive { from: q, at: q };
-        let report = Step::Report { p: q, view: View::only(q) };
-        let alone = [report, own, Step::Respond { p: q, to: q }, own, own];
+        let own = Action::Receive { from: q, at: q };
+        let report = Action::Report { p: q, view: View::only(q) };
+        let alone = [report, own, Action::Respond { p: q, to: q }, own, own];
         if q.0 == 1 || self.one_in(4) {
             return [alone.repeat(23), vec![report; 9]].concat();
         }
         let p = self.one_of(q.0 - 1);
         let others = if self.one_in(2) { self.some_of(n).0 >> p.0 << p.0 } else { 0 };
         let view = View(others).with(p).with(q);
-        let propose = Step::Report { p, view };
-        let take = Step::Receive { from: p, at: q };
-        let answer = Step::Respond { p: q, to: p };
+        let propose = Action::Report { p, view };
+        let take = Action::Receive { from: p, at: q };
+        let answer = Action::Respond { p: q, to: p };
         let ahead = if self.one_in(4) { 31 } else { self.roll(31) };
         let mut steps = alone.repeat(ahead);
-        steps.push(Step::Report { p: q, view });
+        steps.push(Action::Report { p: q, view });
         if self.one_in(2) {
             let times = self.pick(&[1, 2, 4, 8, 8]);
             steps.extend(vec![propose; times]);
             steps.extend(vec![take; times]);
-            steps.extend([answer, Step::Receive { from: q, at: p }]);
+            steps.extend([answer, Action::Receive { from: q, at: p }]);
         } else {
-            steps.extend([propose, Step::Receive { from: p, at: p }, take, answer].repeat(9));
+            steps.extend([propose, Action::Receive { from: p, at: p }, take, answer].repeat(9));
         }
         steps
     }
 }
 
 /// Is there a message to take, or a record to answer?
-fn something_there(system: &System, step: Step) -> bool {
+fn something_there(system: &System, action: Action) -> bool {
     let known = |p: ProcessId| (1..=system.n).contains(&p.0);
-    match step {
-        Step::Receive { from, at } => {
+    match action {
+        Action::Receive { from, at } => {
             known(from) && known(at) && !system.channel(from, at).is_empty()
         }
-        Step::Respond { p, to } => {
+        Action::Respond { p, to } => {
             known(p) && known(to) && {
                 let process = system.process(p);
                 process.recorded(to).is_some_and(|proposal| proposal.view == process.view)

@@ -9,14 +9,15 @@ pub mod poised;
 pub mod rival;
 pub mod ways;
 
-use reference::Step;
+use reference::{Action, Step};
 
 /// The step as the library's wrapper has it.
 pub fn our_step(step: Step) -> lobstercreel::Step {
-    match step {
-        Step::Report { p, view } => lobstercreel::Step::Report { p: p.0, view: view.0 },
-        Step::Receive { from, at } => lobstercreel::Step::Receive { q: from.0, p: at.0 },
-        Step::Respond { p, to } => lobstercreel::Step::Respond { p: p.0, q: to.0 },
-        Step::Crash { p } => lobstercreel::Step::Crash { p: p.0 },
-    }
+    let action = match step.action {
+        Action::Report { p, view } => lobstercreel::Action::Report { p: p.0, view: view.0 },
+        Action::Receive { from, at } => lobstercreel::Action::Receive { q: from.0, p: at.0 },
+        Action::Respond { p, to } => lobstercreel::Action::Respond { p: p.0, q: to.0 },
+        Action::Crash { p } => lobstercreel::Action::Crash { p: p.0 },
+    };
+    lobstercreel::Step { action, cut: step.cut }
 }

@@ -1,18 +1,22 @@
 //! Lines of sheets: those of steps, and those of no form, kind by kind.
 
 use crate::dice::Dice;
-use reference::Step;
+use reference::{Action, Step};
 
 /// The step as a line of a sheet.
 pub fn line(step: Step) -> String {
-    match step {
-        Step::Report { p, view } => {
+    let action = match step.action {
+        Action::Report { p, view } => {
             let digits: String = view.members().map(|q| char::from(b'0' + q.0)).collect();
             format!("r {} {}", p.0, if digits.is_empty() { "-".into() } else { digits })
         }
-        Step::Receive { from, at } => format!("t {} {}", from.0, at.0),
-        Step::Respond { p, to } => format!("a {} {}", p.0, to.0),
-        Step::Crash { p } => format!("s {}", p.0),
+        Action::Receive { from, at } => format!("t {} {}", from.0, at.0),
+        Action::Respond { p, to } => format!("a {} {}", p.0, to.0),
+        Action::Crash { p } => format!("s {}", p.0),
+    };
+    match step.cut {
+        Some(k) => format!("{action} cut {k}"),
+        None => action,
     }
 }
 
@@ -37,17 +41,17 @@ pub const LATER: &[Kind] = &[
     (
         "8 more after a report",
         &[
-            (b"r # 1 ", 6),
-            (b"r # - ", 6),
-            (b"r # 1 2", 6),
+            (b"r # 1 ", 7),
+            (b"r # - ", 7),
+            (b"r # 1 2", 7),
             (b"r # -1", 6),
             (b"r # 1-", 6),
             (b"r # --", 6),
-            (b"r # 138 1", 8),
+            (b"r # 138 1", 9),
         ],
     ),
-    ("8 more after a take", &[(b"t # # ", 6), (b"t # ##", 6), (b"t # # #", 6)]),
-    ("8 more after an answer", &[(b"a # # ", 6), (b"a # ##", 6), (b"a # # #", 6)]),
+    ("8 more after a take", &[(b"t # # ", 7), (b"t # ##", 6), (b"t # # #", 7)]),
+    ("8 more after an answer", &[(b"a # # ", 7), (b"a # ##", 6), (b"a # # #", 7)]),
     ("8 more after a stop", &[(b"s # ", 4), (b"s ##", 4), (b"s # #", 4)]),
     ("8 first number of two digits", &[(b"r ## 1", 4), (b"t ## #", 4), (b"a ## #", 4)]),
     (
@@ -85,6 +89,35 @@ pub const LATER: &[Kind] = &[
             (b"t # \xd9\xa1", 5),
         ],
     ),
+    (
+        "8 breaks off in a cut",
+        &[
+            (b"r # 1 c", 8),
+            (b"t # # cu", 9),
+            (b"a # # cut", 10),
+            (b"r # - cut ", 11),
+            (b"t # # cut ", 11),
+        ],
+    ),
+    (
+        "8 count that is no digit",
+        &[(b"t # # cut x", 11), (b"a # # cut -", 11), (b"r # 12 cut /", 12)],
+    ),
+    (
+        "8 count of two digits",
+        &[(b"t # # cut ##", 12), (b"r # - cut ##", 12), (b"a # # cut # ", 12)],
+    ),
+    ("8 cut of a stop", &[(b"s # cut #", 4)]),
+    (
+        "8 cut parted otherwise",
+        &[
+            (b"t # #  cut #", 7),
+            (b"t # # Cut #", 7),
+            (b"a # # cut  #", 11),
+            (b"t # #cut #", 6),
+            (b"r # 12cut #", 7),
+        ],
+    ),
 ];
 
 /// Bad as the first line.
@@ -92,7 +125,10 @@ pub const FIRST: &[Kind] = &[
     ("8 first line empty", &[(b"", 1)]),
     ("8 first line, wrong size", &[(b"u 0", 3), (b"u 9", 3)]),
     ("8 first line breaks off", &[(b"u", 2), (b"u ", 3)]),
-    ("8 first line, more after it", &[(b"u 2 ", 4), (b"u 2#", 4), (b"u 2 #", 4), (b"u 2\r", 4)]),
+    (
+        "8 first line, more after it",
+        &[(b"u 2 cut #", 4), (b"u 2 ", 4), (b"u 2#", 4), (b"u 2 #", 4), (b"u 2\r", 4)],
+    ),
     ("8 first line, a step", &[(b"r # 1", 1), (b"t # #", 1), (b"a # #", 1), (b"s #", 1)]),
     (
         "8 first line, no form",

@@ -1,7 +1,9 @@
 //! Systems that no run has left: changed here and there, or poised so that a certain step is due.
 
 use crate::dice::Dice;
-use reference::{Channel, GroupIndex, Message, ProcessId, Proposal, Step, System, View, CAPACITY};
+use reference::{
+    Action, Channel, GroupIndex, Message, ProcessId, Proposal, Step, System, View, CAPACITY,
+};
 
 /// A change that often leaves the system sound, and that no step makes.
 pub fn disturb(dice: &mut Dice, system: &mut System) {
@@ -47,7 +49,7 @@ pub fn poise(dice: &mut Dice, system: &mut System) -> Step {
     let view = dice.some_of(n).with(p).with(q);
     let process = system.process_mut(p);
     process.crashed = false;
-    let step = match dice.roll(3) {
+    let action = match dice.roll(3) {
         0 => {
             process.propout = index;
             process.proposal = view;
@@ -55,7 +57,7 @@ pub fn poise(dice: &mut Dice, system: &mut System) -> Step {
             process.acks = if stale { view } else { view.without(q) };
             let acc = Message::Acc(if stale { dice.index() } else { index });
             set_first(system.channel_mut(q, p), acc);
-            Step::Receive { from: q, at: p }
+            Action::Receive { from: q, at: p }
         }
         1 => {
             process.propout = index;
@@ -63,19 +65,19 @@ pub fn poise(dice: &mut Dice, system: &mut System) -> Step {
             process.view = View(view.0 >> (p.0 - 1) << (p.0 - 1));
             let new = GroupIndex(index.0 + 1 + dice.roll(33 - usize::from(index.0)) as u8);
             set_first(system.channel_mut(q, p), Message::Retry { old: index, new });
-            Step::Receive { from: q, at: p }
+            Action::Receive { from: q, at: p }
         }
         _ => {
             process.view = view;
             process.next = GroupIndex(dice.index().0 + 1);
             process.set_recorded(q, Some(Proposal { view, index }));
-            Step::Respond { p, to: q }
+            Action::Respond { p, to: q }
         }
     };
     if dice.one_in(2) {
         crowd(dice, system, p);
     }
-    step
+    dice.cut(action, 3)
 }
 
 /// Fills some lines from p.

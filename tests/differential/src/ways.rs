@@ -2,7 +2,7 @@
 
 use crate::faults::{DAMAGES, FAULTS};
 use crate::lines::{FIRST, LATER};
-use reference::{Message, Process, ProcessId, Step, System, View, CAPACITY};
+use reference::{Action, Message, Process, ProcessId, Step, System, View, CAPACITY};
 use std::collections::{BTreeMap, BTreeSet};
 
 /// Each way is met at least so often, where it can be met at all.
@@ -54,6 +54,25 @@ const STEPS: &[&str] = &[
     "10 no record, the line full",
     "11 record of another view",
     "11 record of another view, the line full",
+    "0 report, cut",
+    "0 take, Retry acted on, cut",
+    "0 take, Acc completing, cut",
+    "0 answer, cut",
+    "0 cut with a stopped unit among those told",
+    "2 cut",
+    "3 cut",
+    "4 cut",
+    "5 cut",
+    "6 cut",
+    "7 cut",
+    "10 cut",
+    "11 cut",
+    "12 report, too many",
+    "12 report, not least",
+    "12 take, too many",
+    "12 take, nothing sent",
+    "12 answer",
+    "12 and a line full",
 ];
 
 /// The same, but only on systems that no run reaches.
@@ -71,6 +90,7 @@ const IMAGES: &[&str] = &[
     "list with too few places",
     "8 unknown kind in a list",
     "8 list that breaks off",
+    "12 stop",
 ];
 
 /// What sheets alone can show; FIRST and LATER too.
@@ -148,71 +168,143 @@ impl Ways {
 
 /// The way by which a step on a sound system came to its number.
 pub fn way(before: &System, step: Step, number: u8) -> &'static str {
-    match (step, number) {
-        (Step::Report { p, view }, 0) if least(view) == p => "0 report, proposing",
-        (Step::Report { .. }, 0) => "0 report, not least",
-        (Step::Receive { from, at }, 0) => taken(before, from, at),
-        (Step::Respond { to, .. }, 0) if before.process(to).crashed => {
+    if let Some(k) = step.cut {
+        return cut_way(before, step.action, k, number);
+    }
+    match (step.action, number) {
+        (Action::Report { p, view }, 0) if least(view) == p => "0 report, proposing",
+        (Action::Report { .. }, 0) => "0 report, not least",
+        (Action::Receive { from, at }, 0) => taken(before, from, at),
+        (Action::Respond { to, .. }, 0) if before.process(to).crashed => {
             "0 answer, to a stopped unit"
         }
-        (Step::Respond { p, to }, 0) => match accepts(before, p, to) {
+        (Action::Respond { p, to }, 0) => match accepts(before, p, to) {
             true => "0 answer, Acc",
             false => "0 answer, Retry",
         },
-        (Step::Crash { .. }, 0) => "0 stop",
-        (Step::Report { .. }, 2) => "2 report",
-        (Step::Receive { from, at }, 2) if stranger(before, from) => match stopped(before, at) {
+        (Action::Crash { .. }, 0) => "0 stop",
+        (Action::Report { .. }, 2) => "2 report",
+        (Action::Receive { from, at }, 2) if stranger(before, from) => match stopped(before, at) {
             true => "2 take, sender, receiver stopped",
             false => "2 take, sender",
         },
-        (Step::Receive { .. }, 2) => "2 take, receiver",
-        (Step::Respond { p, .. }, 2) if stranger(before, p) => "2 answer, who answers",
-        (Step::Respond { p, .. }, 2) => match stopped(before, p) {
+        (Action::Receive { .. }, 2) => "2 take, receiver",
+        (Action::Respond { p, .. }, 2) if stranger(before, p) => "2 answer, who answers",
+        (Action::Respond { p, .. }, 2) => match stopped(before, p) {
             true => "2 answer, to whom, who answers stopped",
             false => "2 answer, to whom",
         },
-        (Step::Crash { .. }, 2) => "2 stop",
-        (Step::Report { p, view }, 3) => match odd(before, p, view) {
+        (Action::Crash { .. }, 2) => "2 stop",
+        (Action::Report { p, view }, 3) => match odd(before, p, view) {
             true => "3 report, odd view",
             false => "3 report",
         },
-        (Step::Receive { .. }, 3) => "3 take",
-        (Step::Respond { .. }, 3) => "3 answer",
-        (Step::Crash { .. }, 3) => "3 stop",
-        (Step::Report { p, view }, 4) => {
+        (Action::Receive { .. }, 3) => "3 take",
+        (Action::Respond { .. }, 3) => "3 answer",
+        (Action::Crash { .. }, 3) => "3 stop",
+        (Action::Report { p, view }, 4) => {
             match (view.is_subset(before.everyone()), view.contains(p)) {
                 (false, true) => "4 beyond n",
                 (true, _) => "4 lacks its own",
                 (false, false) => "4 both",
             }
         }
-        (Step::Receive { .. }, 5) => "5 empty line",
-        (Step::Respond { p, to }, 10) => match is_full(before, p, to) {
+        (Action::Receive { .. }, 5) => "5 empty line",
+        (Action::Respond { p, to }, 10) => match is_full(before, p, to) {
             true => "10 no record, the line full",
             false => "10 no record",
         },
-        (Step::Respond { p, to }, 11) => match is_full(before, p, to) {
+        (Action::Respond { p, to }, 11) => match is_full(before, p, to) {
             true => "11 record of another view, the line full",
             false => "11 record of another view",
         },
-        (Step::Report { p, .. }, 6) => match is_full(before, p, p) {
+        (Action::Report { p, .. }, 6) => match is_full(before, p, p) {
             true => "6 report, its line full",
             false => "6 report",
         },
-        (Step::Receive { from, at }, 6) => match from != at && is_full(before, at, at) {
+        (Action::Receive { from, at }, 6) => match from != at && is_full(before, at, at) {
             true => "6 Retry, its line full",
             false => "6 Retry",
         },
-        (Step::Report { .. }, 7) => "7 report",
-        (Step::Receive { from, at }, 7) => match before.channel(from, at).first() {
+        (Action::Report { .. }, 7) => "7 report",
+        (Action::Receive { from, at }, 7) => match before.channel(from, at).first() {
             Some(Message::Retry { .. }) => "7 Retry",
             _ => "7 Commit",
         },
-        (Step::Respond { p, to }, 7) => match accepts(before, p, to) {
+        (Action::Respond { p, to }, 7) => match accepts(before, p, to) {
             true => "7 answer, Acc",
             false => "7 answer, Retry",
         },
         (_, other) => panic!("{step:?} gave {other}"),
+    }
+}
+
+/// The same, of a step that is cut after k messages.
+fn cut_way(before: &System, action: Action, k: u8, number: u8) -> &'static str {
+    let (actor, to) = addressees(before, action);
+    let full = |q: ProcessId| !before.process(q).crashed && is_full(before, actor, q);
+    match (action, number) {
+        (_, 0) if to.iter().take(k.into()).any(|&q| before.process(q).crashed) => {
+            "0 cut with a stopped unit among those told"
+        }
+        (Action::Report { .. }, 0) => "0 report, cut",
+        (Action::Receive { from, at }, 0) => match before.channel(from, at).first() {
+            Some(Message::Retry { .. }) => "0 take, Retry acted on, cut",
+            _ => "0 take, Acc completing, cut",
+        },
+        (Action::Respond { .. }, 0) => "0 answer, cut",
+        (_, 2) => "2 cut",
+        (_, 3) => "3 cut",
+        (_, 4) => "4 cut",
+        (_, 5) => "5 cut",
+        (_, 6) => "6 cut",
+        (_, 7) => "7 cut",
+        (_, 10) => "10 cut",
+        (_, 11) => "11 cut",
+        (Action::Crash { .. }, 12) => "12 stop",
+        (Action::Report { .. }, 12) if to.is_empty() => "12 report, not least",
+        (Action::Receive { .. }, 12) if to.is_empty() => "12 take, nothing sent",
+        (_, 12) if to.iter().any(|&q| full(q)) => "12 and a line full",
+        (Action::Report { .. }, 12) => "12 report, too many",
+        (Action::Receive { .. }, 12) => "12 take, too many",
+        (Action::Respond { .. }, 12) => "12 answer",
+        (_, other) => panic!("{action:?} cut after {k} gave {other}"),
+    }
+}
+
+/// Who acts, and those to whom the whole step would send, where it is done or refused for its cut.
+fn addressees(before: &System, action: Action) -> (ProcessId, Vec<ProcessId>) {
+    let known = |p: ProcessId| !stranger(before, p);
+    let of = |view: View| view.members().collect();
+    match action {
+        Action::Report { p, view } if least(view) == p => (p, of(view)),
+        Action::Report { p, .. } | Action::Crash { p } => (p, Vec::new()),
+        Action::Respond { p, to } => (p, vec![to]),
+        Action::Receive { from, at } if known(from) && known(at) => {
+            let process: &Process = before.process(at);
+            let to = match before.channel(from, at).first() {
+                Some(Message::Retry { old, .. })
+                    if *old == process.propout && least(process.view) == at =>
+                {
+                    of(process.view)
+                }
+                Some(Message::Acc(index)) => {
+                    let marked = match *index == process.propout {
+                        true => process.acks.with(from),
+                        false => process.acks,
+                    };
+                    let complete = process.proposal.is_subset(marked);
+                    if complete {
+                        of(process.proposal)
+                    } else {
+                        Vec::new()
+                    }
+                }
+                _ => Vec::new(),
+            };
+            (at, to)
+        }
+        Action::Receive { at, .. } => (at, Vec::new()),
     }
 }
 

@@ -23,6 +23,6 @@ pub use process::{Process, POSITIONS};
 pub use refusal::{number, Outcome, Refusal};
 pub use sheet::{run_sheet, SHEET_LIMIT};
 pub use soundness::sound;
-pub use step::{crash, receive, report, respond, Step};
+pub use step::{crash, receive, report, respond, Action, Step};
 pub use system::{fresh, Channel, System, CAPACITY, MAX_PROCESSES};
 pub use view::{ProcessId, View};

@@ -25,6 +25,8 @@ pub enum Refusal {
     NoRecord,
     /// What is recorded has another view than the local one.
     OtherView,
+    /// The step would not send more messages than it is cut after.
+    CutTooLate,
 }
 
 /// What a step answers.
@@ -45,6 +47,7 @@ pub fn number(outcome: Outcome) -> u8 {
         Err(Refusal::LongSheet) => 9,
         Err(Refusal::NoRecord) => 10,
         Err(Refusal::OtherView) => 11,
+        Err(Refusal::CutTooLate) => 12,
     }
 }
 

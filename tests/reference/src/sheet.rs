@@ -1,7 +1,7 @@
 //! The trainee's sheet: its lines, its run and what is printed.
 
 use crate::refusal::{number, Outcome, Refusal};
-use crate::step::Step;
+use crate::step::{Action, Step};
 use crate::system::{fresh, System};
 use crate::view::{ProcessId, View};
 use std::collections::BTreeMap;
@@ -68,21 +68,29 @@ fn first_lines() -> &'static BTreeMap<Vec<u8>, u8> {
 }
 
 /// Every line that is allowed later: "`r P VIEW`; `t Q P` (take, from Q at P);
-/// `a P Q` (P answers Q); `s P`. P and Q are one digit."
+/// `a P Q` (P answers Q); `s P`. P and Q are one digit." S-2: "` cut K` follows
+/// the step, K one digit; after `u` or `s` it is a bad line."
 fn later_lines() -> &'static BTreeMap<Vec<u8>, Step> {
     static LINES: OnceLock<BTreeMap<Vec<u8>, Step>> = OnceLock::new();
     LINES.get_or_init(|| {
         let mut lines = BTreeMap::new();
-        let mut allow = |line: String, step| lines.insert(line.into_bytes(), step);
+        let mut allow = |line: String, action: Action| {
+            if !matches!(action, Action::Crash { .. }) {
+                for k in 0..=9 {
+                    lines.insert(format!("{line} cut {k}").into_bytes(), action.cut(k));
+                }
+            }
+            lines.insert(line.into_bytes(), action.into());
+        };
         for p in (0..=9).map(ProcessId) {
             for view in (0..=u8::MAX).map(View) {
-                allow(format!("r {} {}", p.0, view_text(view)), Step::Report { p, view });
+                allow(format!("r {} {}", p.0, view_text(view)), Action::Report { p, view });
             }
             for q in (0..=9).map(ProcessId) {
-                allow(format!("t {} {}", q.0, p.0), Step::Receive { from: q, at: p });
-                allow(format!("a {} {}", p.0, q.0), Step::Respond { p, to: q });
+                allow(format!("t {} {}", q.0, p.0), Action::Receive { from: q, at: p });
+                allow(format!("a {} {}", p.0, q.0), Action::Respond { p, to: q });
             }
-            allow(format!("s {}", p.0), Step::Crash { p });
+            allow(format!("s {}", p.0), Action::Crash { p });
         }
         lines
     })

@@ -1,5 +1,5 @@
-//! The four steps. Each makes the next system from the one handed over, in
-//! the order of document 01's sentences, or is refused.
+//! The steps, whole or cut. Each makes the next system from the one handed
+//! over, in the order of document 01's sentences, or is refused.
 
 use crate::message::{GroupIndex, Message, Proposal, LAST_INDEX};
 use crate::refusal::{refuse_if, Outcome, Refusal};
@@ -7,9 +7,9 @@ use crate::soundness::sound;
 use crate::system::{System, CAPACITY};
 use crate::view::{ProcessId, View};
 
-/// One of the four steps.
+/// One of the four things that a step can be.
 #[derive(Clone, Copy, Debug, PartialEq, Eq)]
-pub enum Step {
+pub enum Action {
     Report {
         p: ProcessId,
         view: View,
@@ -32,22 +32,48 @@ pub enum Step {
 
 /// Process p is told its local view.
 pub fn report(system: &mut System, p: ProcessId, view: View) -> Outcome {
-    Step::Report { p, view }.run(system)
+    Action::Report { p, view }.run(system)
 }
 
 /// Process `at` receives the oldest message of `from`.
 pub fn receive(system: &mut System, from: ProcessId, at: ProcessId) -> Outcome {
-    Step::Receive { from, at }.run(system)
+    Action::Receive { from, at }.run(system)
 }
 
 /// Process p responds to the recorded proposal of `to`.
 pub fn respond(system: &mut System, p: ProcessId, to: ProcessId) -> Outcome {
-    Step::Respond { p, to }.run(system)
+    Action::Respond { p, to }.run(system)
 }
 
 /// Process p stops for good.
 pub fn crash(system: &mut System, p: ProcessId) -> Outcome {
-    Step::Crash { p }.run(system)
+    Action::Crash { p }.run(system)
+}
+
+/// A step: an action, whole or cut. S-2: "A report, take or answer may now be
+/// cut after its first k messages".
+#[derive(Clone, Copy, Debug, PartialEq, Eq)]
+pub struct Step {
+    pub action: Action,
+    pub cut: Option<u8>,
+}
+
+impl From<Action> for Step {
+    fn from(action: Action) -> Step {
+        Step { action, cut: None }
+    }
+}
+
+impl Action {
+    /// The step that is cut after its first k messages.
+    pub fn cut(self, k: u8) -> Step {
+        Step { action: self, cut: Some(k) }
+    }
+
+    /// Does the whole step.
+    pub fn run(self, system: &mut System) -> Outcome {
+        Step::from(self).run(system)
+    }
 }
 
 impl Step {
@@ -59,26 +85,38 @@ impl Step {
 
     /// The next system; or "the lowest number that applies".
     pub fn next(self, system: &System) -> Result<System, Refusal> {
-        let (actor, other) = match self {
-            Step::Report { p, .. } | Step::Crash { p } => (p, p),
-            Step::Receive { from, at } => (at, from),
-            Step::Respond { p, to } => (p, to),
+        let Step { action, cut } = self;
+        let (actor, other) = match action {
+            Action::Report { p, .. } | Action::Crash { p } => (p, p),
+            Action::Receive { from, at } => (at, from),
+            Action::Respond { p, to } => (p, to),
         };
         let known = |p: ProcessId| (1..=system.n).contains(&p.0);
         refuse_if(!sound(system), Refusal::Unsound)?;
         refuse_if(!known(actor) || !known(other), Refusal::Stranger)?;
         refuse_if(system.process(actor).crashed, Refusal::Crashed)?;
         let after = system.clone();
-        match self {
-            Step::Report { p, view } => reported(after, p, view),
-            Step::Receive { from, at } => received(after, from, at),
-            Step::Respond { p, to } => responded(after, p, to),
-            Step::Crash { p } => Ok(crashed(after, p)),
+        match action {
+            Action::Report { p, view } => reported(after, p, view, cut),
+            Action::Receive { from, at } => received(after, from, at, cut),
+            Action::Respond { p, to } => responded(after, p, to, cut),
+            Action::Crash { p } => silent(crashed(after, p), cut),
         }
     }
 }
 
-fn reported(mut after: System, p: ProcessId, view: View) -> Result<System, Refusal> {
+/// A step that sends nothing: no count is below the number that it would send.
+fn silent(after: System, cut: Option<u8>) -> Result<System, Refusal> {
+    refuse_if(cut.is_some(), Refusal::CutTooLate)?;
+    Ok(after)
+}
+
+fn reported(
+    mut after: System,
+    p: ProcessId,
+    view: View,
+    cut: Option<u8>,
+) -> Result<System, Refusal> {
     let odd = !view.is_subset(after.everyone()) || !view.contains(p);
     refuse_if(odd, Refusal::OddView)?;
     let process = after.process_mut(p);
@@ -86,7 +124,7 @@ fn reported(mut after: System, p: ProcessId, view: View) -> Result<System, Refus
     process.view = view;
     // "If p is its least unit: .. Otherwise nothing else changes."
     if view.min() != Some(p) {
-        return Ok(after);
+        return silent(after, cut);
     }
     refuse_if(process.propout.0 == LAST_INDEX, Refusal::HistoryFull)?;
     // "PropOut rises by 1, the last proposed view becomes this view, the
@@ -96,10 +134,15 @@ fn reported(mut after: System, p: ProcessId, view: View) -> Result<System, Refus
     process.propout = index;
     process.proposal = view;
     process.acks = View::EMPTY;
-    sent(after, p, view, Message::Propose(Proposal { view, index }))
+    sent(after, p, view, Message::Propose(Proposal { view, index }), cut)
 }
 
-fn received(mut after: System, q: ProcessId, p: ProcessId) -> Result<System, Refusal> {
+fn received(
+    mut after: System,
+    q: ProcessId,
+    p: ProcessId,
+    cut: Option<u8>,
+) -> Result<System, Refusal> {
     refuse_if(after.channel(q, p).is_empty(), Refusal::NothingThere)?;
     // "The oldest message on the line from q to p comes off."
     let message = after.channel_mut(q, p).remove(0);
@@ -108,7 +151,7 @@ fn received(mut after: System, q: ProcessId, p: ProcessId) -> Result<System, Ref
         // "recorded as q's proposal in place of any earlier one from q"
         Message::Propose(proposal) => {
             process.set_recorded(q, Some(proposal));
-            Ok(after)
+            silent(after, cut)
         }
         // "if old is PropOut and p is the least unit of its local view,
         // PropOut becomes new, acknowledgements are cleared, Propose(local
@@ -116,13 +159,13 @@ fn received(mut after: System, q: ProcessId, p: ProcessId) -> Result<System, Ref
         // view is not touched .. Otherwise ignored."
         Message::Retry { old, new } => {
             if old != process.propout || process.view.min() != Some(p) {
-                return Ok(after);
+                return silent(after, cut);
             }
             refuse_if(new.0 == LAST_INDEX + 1, Refusal::HistoryFull)?;
             process.propout = new;
             process.acks = View::EMPTY;
             let view = process.view;
-            sent(after, p, view, Message::Propose(Proposal { view, index: new }))
+            sent(after, p, view, Message::Propose(Proposal { view, index: new }), cut)
         }
         // "if i is PropOut, q is marked as acknowledged. Then, stale or not,
         // if the last proposed view is not empty and all its units are
@@ -134,20 +177,25 @@ fn received(mut after: System, q: ProcessId, p: ProcessId) -> Result<System, Ref
             }
             let (view, index) = (process.proposal, process.propout);
             if view.is_empty() || !view.is_subset(process.acks) {
-                return Ok(after);
+                return silent(after, cut);
             }
             process.acks = View::EMPTY;
-            sent(after, p, view, Message::Commit(Proposal { view, index }))
+            sent(after, p, view, Message::Commit(Proposal { view, index }), cut)
         }
         // "position i at p becomes that view"
         Message::Commit(Proposal { view, index }) => {
             process.set_entry(index, view);
-            Ok(after)
+            silent(after, cut)
         }
     }
 }
 
-fn responded(mut after: System, p: ProcessId, q: ProcessId) -> Result<System, Refusal> {
+fn responded(
+    mut after: System,
+    p: ProcessId,
+    q: ProcessId,
+    cut: Option<u8>,
+) -> Result<System, Refusal> {
     let process = after.process_mut(p);
     // "p has a recorded proposal from q whose view equals p's local view." S-1:
     // "An answer with no record gets its own number, and so does one whose
@@ -167,7 +215,7 @@ fn responded(mut after: System, p: ProcessId, q: ProcessId) -> Result<System, Re
         process.next = GroupIndex(index.0 + 1);
         Message::Acc(index)
     };
-    sent(after, p, View::only(q), reply)
+    sent(after, p, View::only(q), reply, cut)
 }
 
 /// "p is stopped for good. Every line towards p is emptied; lines from p
@@ -184,10 +232,28 @@ fn crashed(mut after: System, p: ProcessId) -> System {
 /// stopped unit vanishes and needs no room." All that the step takes off a
 /// channel has come off: "Room is counted after the taken message has come
 /// off."
-fn sent(mut after: System, p: ProcessId, to: View, message: Message) -> Result<System, Refusal> {
-    for q in to.members().filter(|q| !after.process(*q).crashed).collect::<Vec<_>>() {
-        refuse_if(after.channel(p, q).len() == CAPACITY, Refusal::ChannelFull)?;
-        after.channel_mut(p, q).push(message);
+///
+/// A cut: "in rising order of addressee, k at least 0 and below the number it
+/// would send. The unit's own fields change as in the full step, those k
+/// messages are placed, and the unit stops as by Stop. Room is tested for those
+/// k only. A message to a stopped unit counts among those it would send."
+fn sent(
+    mut after: System,
+    p: ProcessId,
+    to: View,
+    message: Message,
+    cut: Option<u8>,
+) -> Result<System, Refusal> {
+    let mut addressees: Vec<ProcessId> = to.members().collect();
+    if let Some(k) = cut.map(usize::from) {
+        refuse_if(k >= addressees.len(), Refusal::CutTooLate)?;
+        addressees.truncate(k);
     }
-    Ok(after)
+    for q in addressees {
+        if !after.process(q).crashed {
+            refuse_if(after.channel(p, q).len() == CAPACITY, Refusal::ChannelFull)?;
+            after.channel_mut(p, q).push(message);
+        }
+    }
+    Ok(if cut.is_some() { crashed(after, p) } else { after })
 }

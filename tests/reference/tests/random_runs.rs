@@ -32,10 +32,10 @@ impl Dice {
     }
 
     /// A step, rolled again a few times while it would be refused.
-    fn likely_step(&mut self, system: &System) -> Step {
+    fn likely_step(&mut self, system: &System) -> Action {
         let mut step = self.step(system.n);
         for _ in 0..self.roll(6) {
-            if step.next(system).is_ok() {
+            if Step::from(step).next(system).is_ok() {
                 break;
             }
             step = self.step(system.n);
@@ -43,19 +43,19 @@ impl Dice {
         step
     }
 
-    fn step(&mut self, n: u8) -> Step {
+    fn step(&mut self, n: u8) -> Action {
         let (p, q) = (self.process(n), self.process(n));
         match self.roll(100) {
             roll if roll < self.reports => {
                 let view = View(self.roll(1 << n)).with(p);
                 let view = if self.roll(4) != 0 { View::first(n) } else { view };
                 let odd = View(self.roll(256));
-                Step::Report { p, view: if self.roll(40) == 0 { odd } else { view } }
+                Action::Report { p, view: if self.roll(40) == 0 { odd } else { view } }
             }
-            0..=64 => Step::Receive { from: q, at: p },
-            65..=98 => Step::Respond { p, to: q },
-            _ if self.roll(40) == 0 => Step::Crash { p },
-            _ => Step::Receive { from: p, at: p },
+            0..=64 => Action::Receive { from: q, at: p },
+            65..=98 => Action::Respond { p, to: q },
+            _ if self.roll(40) == 0 => Action::Crash { p },
+            _ => Action::Receive { from: p, at: p },
         }
     }
 }
@@ -65,8 +65,8 @@ type Accepted = BTreeSet<(ProcessId, View, GroupIndex)>;
 
 /// What a step done on this system accepts: an answer to a proposal that is
 /// not below Next.
-fn accepts(system: &System, step: Step) -> Option<(ProcessId, View, GroupIndex)> {
-    let Step::Respond { p, to } = step else { return None };
+fn accepts(system: &System, step: Action) -> Option<(ProcessId, View, GroupIndex)> {
+    let Action::Respond { p, to } = step else { return None };
     let Proposal { view, index } = system.process(p).recorded(to)?;
     (index >= system.process(p).next).then_some((p, view, index))
 }
@@ -134,8 +134,8 @@ fn steps_from_fresh() {
 
 /// Only a report that proposes nothing, of the view that p has, is done and
 /// changes nothing.
-fn changes_nothing(system: &System, step: Step) -> bool {
-    matches!(step, Step::Report { p, view } if view.min() != Some(p) && system.process(p).view == view)
+fn changes_nothing(system: &System, step: Action) -> bool {
+    matches!(step, Action::Report { p, view } if view.min() != Some(p) && system.process(p).view == view)
 }
 
 /// Some bytes of the image, changed.

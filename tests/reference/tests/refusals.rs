@@ -6,30 +6,30 @@ use common::*;
 use reference::*;
 
 /// The step is refused with this number, and the system stays.
-fn refused(system: &System, step: Step, wanted: u8) {
+fn refused(system: &System, step: Action, wanted: u8) {
     let mut after = system.clone();
     assert_eq!(number(step.run(&mut after)), wanted, "{step:?}");
     assert_eq!(&after, system, "{step:?}");
 }
 
-fn done(system: &mut System, step: Step) {
+fn done(system: &mut System, step: Action) {
     assert_eq!(number(step.run(system)), 0, "{step:?}");
 }
 
-fn report_by(p: u8, view: u8) -> Step {
-    Step::Report { p: id(p), view: View(view) }
+fn report_by(p: u8, view: u8) -> Action {
+    Action::Report { p: id(p), view: View(view) }
 }
 
-fn receive_by(q: u8, p: u8) -> Step {
-    Step::Receive { from: id(q), at: id(p) }
+fn receive_by(q: u8, p: u8) -> Action {
+    Action::Receive { from: id(q), at: id(p) }
 }
 
-fn respond_by(p: u8, q: u8) -> Step {
-    Step::Respond { p: id(p), to: id(q) }
+fn respond_by(p: u8, q: u8) -> Action {
+    Action::Respond { p: id(p), to: id(q) }
 }
 
-fn crash_of(p: u8) -> Step {
-    Step::Crash { p: id(p) }
+fn crash_of(p: u8) -> Action {
+    Action::Crash { p: id(p) }
 }
 
 #[test]
@@ -46,8 +46,10 @@ fn numbers_of_the_table() {
         Refusal::LongSheet,
         Refusal::NoRecord,
         Refusal::OtherView,
+        Refusal::CutTooLate,
     ];
-    assert_eq!(table.map(|refusal| number(Err(refusal))), [1, 2, 3, 4, 5, 6, 7, 8, 9, 10, 11]);
+    let numbers = [1, 2, 3, 4, 5, 6, 7, 8, 9, 10, 11, 12];
+    assert_eq!(table.map(|refusal| number(Err(refusal))), numbers);
     assert_eq!(number(Ok(())), 0);
 }
 
@@ -164,4 +166,34 @@ fn on_one_sheet() {
     let filled = "; r 1 12".repeat(8);
     let sheet = format!("u 2; s 3{filled}; r 1 12; t 2 1; r 1 2; a 2 1; s 1; s 1");
     check(&sheet, "2 00000000 7 5 4 a 0 3", "unit 1 stopped next 2 1=12; unit 2 live next 2 1=12");
+}
+
+/// S-2, with its own example: "after the third message of five".
+#[test]
+fn cut_steps() {
+    let mut system = system(5);
+    let report = report_by(1, 31);
+    assert_eq!(number(report.cut(5).run(&mut system.clone())), 12);
+    assert_eq!(number(report.cut(3).run(&mut system)), 0);
+    assert!(system.process(id(1)).crashed);
+    assert_eq!(system.process(id(1)).propout, index(2));
+    // To itself the message is placed too, and cleared by the stop.
+    let waits = [1, 2, 3, 4, 5].map(|p| waiting(&system, 1, p).len());
+    assert_eq!(waits, [0, 1, 1, 0, 0]);
+    refused(&system, report, 3);
+    // A stopped unit counts among the first.
+    let mut other = common::system(5);
+    done(&mut other, crash_of(2));
+    assert_eq!(number(report.cut(3).run(&mut other)), 0);
+    assert_eq!([1, 2, 3, 4, 5].map(|p| waiting(&other, 1, p).len()), [0, 0, 1, 0, 0]);
+    // Room is asked for those k only, and 12 stands before 7.
+    let mut full = common::system(2);
+    put(&mut full, 1, 2, &[acc(2); 8]);
+    assert_eq!(number(report_by(1, 3).cut(2).run(&mut full.clone())), 12);
+    assert_eq!(number(report_by(1, 3).run(&mut full.clone())), 7);
+    assert_eq!(number(report_by(1, 3).cut(1).run(&mut full)), 0);
+    // A step that sends nothing is never cut, and nothing changes.
+    let mut silent = common::system(2);
+    assert_eq!(number(report_by(2, 3).cut(0).run(&mut silent)), 12);
+    assert_eq!(silent, common::system(2));
 }

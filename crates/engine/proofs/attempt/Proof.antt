@@ -1,4 +1,6 @@
 -- `engine::attempt`: by its tests, one after the other.
+use mathlib.Core.Path.{_∙_, ap}
+use Rattle.plan.specs.Cut.{cutBy}
 use Rattle.engine.proofs.Given.{turned-away, plan-refused, no-room, done-gives}
 use borrow.Author.Needs.{needs}
 use Rattle.engine.proofs.attempt.Statement.{statement}
@@ -6,10 +8,10 @@ use Rattle.engine.proofs.attempt.Tie as tie
 
 returns : tie.Need-returns
 returns c =
-    done-gives _ _ _ (c .before .before .before .before .before .before .before .before .before .before .before .before .before .before .scope-of .ensures)
-    _ (c .before .before .before .before .before .before .before .before .before .before .before .before .guard .ensures)
-    (c .before .before .before .before .before .before .before .before .before .before .before .if1 .taken)
-    _ (c .before .before .before .before .before .before .before .before .before .plan-of .ensures)
+    done-gives _ _ _ (c .before .before .before .before .before .before .before .before .before .before .before .before .before .before .before .scope-of .ensures)
+    _ (c .before .before .before .before .before .before .before .before .before .before .before .before .before .guard .ensures)
+    (c .before .before .before .before .before .before .before .before .before .before .before .before .if1 .taken)
+    _ (c .before .before .before .before .before .before .before .before .before .cut-by .ensures ∙ ap (cutBy _) (c .before .before .before .before .before .before .before .before .before .before .plan-of .ensures))
     (c .before .before .before .before .before .before .before .if2 .taken)
     _ (c .before .before .before .before .before .room .ensures)
     (c .before .before .before .before .if3 .taken)
@@ -17,20 +19,20 @@ returns c =
 
 returns-2 : tie.Need-returns-2
 returns-2 c =
-    no-room _ _ _ (c .before .before .before .before .before .before .before .before .before .before .scope-of .ensures)
-    _ (c .before .before .before .before .before .before .before .before .guard .ensures)
-    (c .before .before .before .before .before .before .before .if1 .taken)
-    _ (c .before .before .before .before .before .plan-of .ensures)
+    no-room _ _ _ (c .before .before .before .before .before .before .before .before .before .before .before .scope-of .ensures)
+    _ (c .before .before .before .before .before .before .before .before .before .guard .ensures)
+    (c .before .before .before .before .before .before .before .before .if1 .taken)
+    _ (c .before .before .before .before .before .cut-by .ensures ∙ ap (cutBy _) (c .before .before .before .before .before .before .plan-of .ensures))
     (c .before .before .before .if2 .taken)
     _ (c .before .room .ensures)
     (c .if3 .left)
 
 returns-3 : tie.Need-returns-3
 returns-3 c =
-    plan-refused _ _ _ (c .before .before .before .before .before .before .before .scope-of .ensures)
-    _ (c .before .before .before .before .before .guard .ensures)
-    (c .before .before .before .before .if1 .taken)
-    _ (c .before .before .plan-of .ensures)
+    plan-refused _ _ _ (c .before .before .before .before .before .before .before .before .scope-of .ensures)
+    _ (c .before .before .before .before .before .before .guard .ensures)
+    (c .before .before .before .before .before .if1 .taken)
+    _ (c .before .before .cut-by .ensures ∙ ap (cutBy _) (c .before .before .before .plan-of .ensures))
     (c .if2 .left)
 
 returns-4 : tie.Need-returns-4
@@ -40,6 +42,7 @@ pub attempt-spec : {M : Type 1} → statement M
 attempt-spec =
     tie.close
     (tie.spec
+    (λ c κs. search needs)
     (λ c κs. search needs)
     (λ c κs. search needs)
     (λ c κs. search needs)

@@ -11,7 +11,7 @@ use Rattle.engine.proofs.order_at.Tie as tie
 
 returns : tie.Need-returns
 unfolding orderAt pick
-returns c = simp (c .order-of .ensures, lt-ltb _ _ (c .before .before .before .before .if2 .taken))
+returns c = simp (c .order-of .ensures, c .before .cut-of .ensures, lt-ltb _ _ (c .before .before .before .before .before .before .if2 .taken))
 
 returns-2 : tie.Need-returns-2
 unfolding orderAt pick
@@ -19,7 +19,7 @@ returns-2 c = simp (le-ltb _ _ (c .if2 .left))
 
 returns-3 : tie.Need-returns-3
 unfolding orderAt pick
-returns-3 c = let a = c .before .before .args in simp (le-ltb 2 (length (a .list .now) - a .at) (omega arith))
+returns-3 c = let a = c .before .before .args in simp (le-ltb 3 (length (a .list .now) - a .at) (omega arith))
 
 pub order-at-spec : {M : Type 1} → statement M
 order-at-spec =
@@ -31,6 +31,9 @@ order-at-spec =
     (λ c. search needs)
     (λ c. search needs)
     (λ c. search needs)
+    (λ c. search needs)
+    (λ c. search needs)
+    (λ c κs. search needs)
     (λ c κs. search needs)
     returns
     returns-2

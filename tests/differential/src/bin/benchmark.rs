@@ -7,7 +7,7 @@ use differential::our_step;
 use differential::rival::{self, rival_step};
 use lobstercreel as ours;
 use reference::image::{decode, encode, Image};
-use reference::{ProcessId, Step, System};
+use reference::{Action, ProcessId, Step, System};
 use std::hint::black_box;
 use std::time::{Duration, Instant};
 
@@ -134,10 +134,10 @@ fn due(system: &System) -> Vec<Step> {
     for p in system.everyone().members() {
         for q in system.everyone().members() {
             if !system.channel(q, p).is_empty() {
-                due.push(Step::Receive { from: q, at: p });
+                due.push(Step::from(Action::Receive { from: q, at: p }));
             }
             if system.process(p).recorded(q).is_some() {
-                due.push(Step::Respond { p, to: q });
+                due.push(Action::Respond { p, to: q }.into());
             }
         }
     }
@@ -147,14 +147,14 @@ fn due(system: &System) -> Vec<Step> {
 
 /// A report, if possible one that is done.
 fn report(dice: &mut Dice, system: &System) -> Step {
-    let mut step = Step::Report { p: ProcessId(1), view: system.everyone() };
+    let mut step = Step::from(Action::Report { p: ProcessId(1), view: system.everyone() });
     for _ in 0..20 {
         if is_done(system, step) {
             break;
         }
         let p = dice.one_of(system.n);
         let view = if dice.one_in(2) { system.everyone() } else { dice.some_of(system.n).with(p) };
-        step = Step::Report { p, view };
+        step = Action::Report { p, view }.into();
     }
     step
 }
@@ -192,12 +192,12 @@ fn sheets(n: u8, lines: usize) {
 }
 
 fn is_quiet(step: Step) -> bool {
-    matches!(step, Step::Report { p, view } if view.min() != Some(p))
+    matches!(step.action, Action::Report { p, view } if view.min() != Some(p))
 }
 
 /// Steps that are done, or answers that find nothing to answer.
 fn steps(n: u8, done: bool) {
-    let nothing = Step::Respond { p: ProcessId(n), to: ProcessId(n) };
+    let nothing = Step::from(Action::Respond { p: ProcessId(n), to: ProcessId(n) });
     let mut run = busy_run(n, 150 * usize::from(n));
     if !done {
         run.iter_mut().for_each(|(_, step)| *step = nothing);

@@ -12,7 +12,7 @@ use differential::rival;
 use differential::ways::{way, By, Ways, AT_LEAST};
 use lobstercreel as ours;
 use reference::image::{decode, encode, Image, SIZE};
-use reference::{number, sound, GroupIndex, ProcessId, Step, System, SHEET_LIMIT};
+use reference::{number, sound, Action, GroupIndex, ProcessId, Step, System, SHEET_LIMIT};
 
 /// How many of each part, with the seeds 0 to one less.
 const RUNS: u64 = 4_000;
@@ -147,7 +147,7 @@ fn as_lists(
         let (mut list, mut wanted) = (Vec::new(), Vec::new());
         for &(step, number) in part {
             if dice.one_in(20) {
-                list.extend([4 + dice.roll(252) as u8, dice.byte(), dice.byte()]);
+                list.extend([4 + dice.roll(252) as u8, dice.byte(), dice.byte(), dice.byte()]);
                 wanted.push(8);
                 ways.count(By::Image, "8 unknown kind in a list");
             }
@@ -155,7 +155,7 @@ fn as_lists(
             wanted.push(number);
         }
         if dice.one_in(4) {
-            list.extend(&[dice.roll(4) as u8, 1][..1 + dice.roll(2)]);
+            list.extend(&[dice.roll(4) as u8, 1, 1][..1 + dice.roll(3)]);
             wanted.push(8);
             ways.count(By::Image, "8 list that breaks off");
         }
@@ -285,12 +285,12 @@ fn wrong_lengths(ways: &mut Ways) {
         let image = &mut memory[..length];
         let (one, two) = (ProcessId(1), ProcessId(2));
         for step in [
-            Step::Report { p: one, view: reference::View(7) },
-            Step::Receive { from: one, at: two },
-            Step::Respond { p: one, to: two },
-            Step::Crash { p: one },
+            Action::Report { p: one, view: reference::View(7) },
+            Action::Receive { from: one, at: two },
+            Action::Respond { p: one, to: two },
+            Action::Crash { p: one },
         ] {
-            assert_eq!(our_number(ours::step(image, our_step(step))), 1, "length {length}");
+            assert_eq!(our_number(ours::step(image, our_step(step.into()))), 1, "length {length}");
         }
         assert_eq!(our_number(ours::fresh(image, 3)), 1, "length {length}");
         assert!(memory == before, "length {length}");
@@ -327,6 +327,14 @@ impl Sheet {
     }
 }
 
+/// No line says that a stop is cut.
+fn on_a_sheet(step: Step) -> Step {
+    match step.action {
+        Action::Crash { .. } => step.action.into(),
+        _ => step,
+    }
+}
+
 /// A sheet by chance, of mostly good lines.
 fn written(dice: &mut Dice, n: u8) -> Sheet {
     let mut sheet = Sheet::default();
@@ -347,7 +355,9 @@ fn written(dice: &mut Dice, n: u8) -> Sheet {
         sheet.add(format!("u {n}").as_bytes(), "", String::new());
         let mut system = reference::fresh(n).1;
         if dice.one_in(4) {
-            dice.opening(n).into_iter().for_each(|step| sheet.add_step(step, &mut system));
+            for step in dice.opening(n) {
+                sheet.add_step(step, &mut system);
+            }
         }
         let mix = dice.mix(n);
         for _ in 0..lines {
@@ -358,7 +368,7 @@ fn written(dice: &mut Dice, n: u8) -> Sheet {
                     let (kind, line, column) = bad(dice, LATER);
                     sheet.add_bad(&line, kind, column);
                 }
-                _ => sheet.add_step(dice.likely_step(&system, mix), &mut system),
+                _ => sheet.add_step(on_a_sheet(dice.likely_step(&system, mix)), &mut system),
             }
         }
     }

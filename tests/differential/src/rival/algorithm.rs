@@ -1,4 +1,4 @@
-//! The guarded commands of Figure 3, with refusals 2 to 7. The system must
+//! The guarded commands of Figure 3, whole or cut, with refusals 2 to 12. The system must
 //! be sound: nothing here tests it, and on another a step may panic. A
 //! refused step leaves the system as it was.
 
@@ -9,7 +9,7 @@ use super::system::System;
 use super::view::{ProcessId, View};
 
 /// Process p is told its local view.
-pub fn report(system: &mut System, p: ProcessId, view: View) -> Outcome {
+pub fn report(system: &mut System, p: ProcessId, view: View, cut: Option<u8>) -> Outcome {
     require_known(system, p)?;
     require_live(system, p)?;
     if !view.is_subset(system.everyone()) || !view.contains(p) {
@@ -20,29 +20,35 @@ pub fn report(system: &mut System, p: ProcessId, view: View) -> Outcome {
         if propout.0 >= LAST_INDEX {
             return Err(Refusal::HistoryFull);
         }
-        system.require_room(p, view)?;
+        let to = told(view, cut)?;
+        system.require_room(p, to)?;
         system.process_mut(p).proposal = view;
-        propose(system, p, view, propout.successor());
+        propose(system, p, view, to, propout.successor());
+    } else {
+        require_whole(cut)?;
     }
     system.process_mut(p).view = view;
+    stop_if(system, p, cut);
     Ok(())
 }
 
 /// Process p receives the oldest message from q (document 01: take).
-pub fn receive(system: &mut System, q: ProcessId, p: ProcessId) -> Outcome {
+pub fn receive(system: &mut System, q: ProcessId, p: ProcessId, cut: Option<u8>) -> Outcome {
     require_known(system, q)?;
     require_known(system, p)?;
     require_live(system, p)?;
     let message = system.channel(q, p).front().ok_or(Refusal::NothingThere)?;
     match message {
         Message::Propose(proposal) => {
+            require_whole(cut)?;
             system.channel_mut(q, p).drop_front();
             system.process_mut(p).recorded[q.slot()] = Some(proposal);
             Ok(())
         }
-        Message::Retry { old, new } => receive_retry(system, q, p, old, new),
-        Message::Acc(index) => receive_acc(system, q, p, index),
+        Message::Retry { old, new } => receive_retry(system, q, p, (old, new), cut),
+        Message::Acc(index) => receive_acc(system, q, p, index, cut),
         Message::Commit(Proposal { view, index }) => {
+            require_whole(cut)?;
             system.channel_mut(q, p).drop_front();
             system.process_mut(p).history[index.slot()] = view;
             Ok(())
@@ -54,44 +60,56 @@ fn receive_retry(
     system: &mut System,
     q: ProcessId,
     p: ProcessId,
-    old: GroupIndex,
-    new: GroupIndex,
+    (old, new): (GroupIndex, GroupIndex),
+    cut: Option<u8>,
 ) -> Outcome {
     let process = system.process(p);
     let view = process.view;
     if process.propout != old || view.min() != Some(p) {
+        require_whole(cut)?;
         system.channel_mut(q, p).drop_front();
         return Ok(());
     }
     if new.0 > LAST_INDEX {
         return Err(Refusal::HistoryFull);
     }
-    system.require_room(p, contended(view, q, p))?;
+    let to = told(view, cut)?;
+    system.require_room(p, contended(to, q, p))?;
     system.channel_mut(q, p).drop_front();
-    propose(system, p, view, new);
+    propose(system, p, view, to, new);
+    stop_if(system, p, cut);
     Ok(())
 }
 
-fn receive_acc(system: &mut System, q: ProcessId, p: ProcessId, index: GroupIndex) -> Outcome {
+fn receive_acc(
+    system: &mut System,
+    q: ProcessId,
+    p: ProcessId,
+    index: GroupIndex,
+    cut: Option<u8>,
+) -> Outcome {
     let process = system.process(p);
     let (view, propout) = (process.proposal, process.propout);
     let acks = if index == propout { process.acks.with(q) } else { process.acks };
     // The departure from the figure: an empty last proposed view is never
     // complete.
     if view.is_empty() || !view.is_subset(acks) {
+        require_whole(cut)?;
         system.channel_mut(q, p).drop_front();
         system.process_mut(p).acks = acks;
         return Ok(());
     }
-    system.require_room(p, contended(view, q, p))?;
+    let to = told(view, cut)?;
+    system.require_room(p, contended(to, q, p))?;
     system.channel_mut(q, p).drop_front();
     system.process_mut(p).acks = View::EMPTY;
-    system.broadcast(p, view, Message::Commit(Proposal { view, index: propout }));
+    system.broadcast(p, to, Message::Commit(Proposal { view, index: propout }));
+    stop_if(system, p, cut);
     Ok(())
 }
 
 /// Process p responds to the recorded proposal of q (document 01: answer).
-pub fn respond(system: &mut System, p: ProcessId, q: ProcessId) -> Outcome {
+pub fn respond(system: &mut System, p: ProcessId, q: ProcessId, cut: Option<u8>) -> Outcome {
     require_known(system, p)?;
     require_known(system, q)?;
     require_live(system, p)?;
@@ -101,7 +119,8 @@ pub fn respond(system: &mut System, p: ProcessId, q: ProcessId) -> Outcome {
         Some(_) => return Err(Refusal::OtherView),
         None => return Err(Refusal::NoRecord),
     };
-    system.require_room(p, View::only(q))?;
+    let to = told(View::only(q), cut)?;
+    system.require_room(p, to)?;
     let process = system.process_mut(p);
     process.recorded[q.slot()] = None;
     let reply = if index < process.next {
@@ -110,27 +129,59 @@ pub fn respond(system: &mut System, p: ProcessId, q: ProcessId) -> Outcome {
         process.next = index.successor();
         Message::Acc(index)
     };
-    system.broadcast(p, View::only(q), reply);
+    system.broadcast(p, to, reply);
+    stop_if(system, p, cut);
     Ok(())
 }
 
 /// Process p stops for good (document 01: stop).
-pub fn crash(system: &mut System, p: ProcessId) -> Outcome {
+pub fn crash(system: &mut System, p: ProcessId, cut: Option<u8>) -> Outcome {
     require_known(system, p)?;
     require_live(system, p)?;
+    require_whole(cut)?;
+    stop(system, p);
+    Ok(())
+}
+
+fn stop(system: &mut System, p: ProcessId) {
     system.process_mut(p).crashed = true;
     for row in &mut system.channels {
         row[p.slot()] = Channel::EMPTY;
     }
-    Ok(())
 }
 
-/// Proposes a view at an index; there must be room.
-fn propose(system: &mut System, p: ProcessId, view: View, index: GroupIndex) {
+/// After a cut the process stops.
+fn stop_if(system: &mut System, p: ProcessId, cut: Option<u8>) {
+    if cut.is_some() {
+        stop(system, p);
+    }
+}
+
+/// A step that sends nothing is never cut.
+fn require_whole(cut: Option<u8>) -> Outcome {
+    match cut {
+        None => Ok(()),
+        Some(_) => Err(Refusal::CutTooLate),
+    }
+}
+
+/// Those of the addressees to whom the message goes.
+fn told(to: View, cut: Option<u8>) -> Result<View, Refusal> {
+    match cut {
+        None => Ok(to),
+        Some(k) if k < to.0.count_ones() as u8 => {
+            Ok(to.members().take(k.into()).fold(View::EMPTY, View::with))
+        }
+        Some(_) => Err(Refusal::CutTooLate),
+    }
+}
+
+/// Proposes a view at an index to some of it; there must be room.
+fn propose(system: &mut System, p: ProcessId, view: View, to: View, index: GroupIndex) {
     let process = system.process_mut(p);
     process.propout = index;
     process.acks = View::EMPTY;
-    system.broadcast(p, view, Message::Propose(Proposal { view, index }));
+    system.broadcast(p, to, Message::Propose(Proposal { view, index }));
 }
 
 /// Those for whom room must be asked when p sends to a view upon a message

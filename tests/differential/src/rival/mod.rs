@@ -19,7 +19,7 @@ mod view;
 pub use refusal::number;
 pub use sheet::run_sheet_onto;
 use soundness::sound;
-pub use step::Step;
+pub use step::{Action, Step};
 pub use view::{ProcessId, View};
 
 /// What is printed for a sheet.
@@ -56,16 +56,17 @@ pub fn steps_on(image: &mut image::Image, steps: &[Step], numbers: &mut [u8]) {
 
 /// The step as the rival has it.
 pub fn rival_step(step: reference::Step) -> Step {
-    match step {
-        reference::Step::Report { p, view } => {
-            Step::Report { p: ProcessId(p.0), view: View(view.0) }
+    let action = match step.action {
+        reference::Action::Report { p, view } => {
+            Action::Report { p: ProcessId(p.0), view: View(view.0) }
         }
-        reference::Step::Receive { from, at } => {
-            Step::Receive { from: ProcessId(from.0), at: ProcessId(at.0) }
+        reference::Action::Receive { from, at } => {
+            Action::Receive { from: ProcessId(from.0), at: ProcessId(at.0) }
         }
-        reference::Step::Respond { p, to } => {
-            Step::Respond { p: ProcessId(p.0), to: ProcessId(to.0) }
+        reference::Action::Respond { p, to } => {
+            Action::Respond { p: ProcessId(p.0), to: ProcessId(to.0) }
         }
-        reference::Step::Crash { p } => Step::Crash { p: ProcessId(p.0) },
-    }
+        reference::Action::Crash { p } => Action::Crash { p: ProcessId(p.0) },
+    };
+    Step { action, cut: step.cut }
 }

@@ -26,6 +26,8 @@ pub enum Refusal {
     NoRecord = 10,
     /// What is recorded has another view than the local one.
     OtherView = 11,
+    /// The step would not send more messages than it is cut after.
+    CutTooLate = 12,
 }
 
 /// What a step answers.

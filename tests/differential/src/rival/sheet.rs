@@ -1,7 +1,7 @@
 //! The trainee's sheet: its lines, its run and what is printed.
 
 use super::refusal::{number, Outcome, Refusal};
-use super::step::Step;
+use super::step::{Action, Step};
 use super::system::System;
 use super::view::{ProcessId, View};
 
@@ -54,19 +54,32 @@ fn parse_size(line: &[u8]) -> Option<u8> {
     }
 }
 
-/// Any later line.
+/// Any later line: an action, and a cut after it or not.
 fn parse_step(line: &[u8]) -> Option<Step> {
+    if let Some(action) = parse_action(line) {
+        return Some(Step { action, cut: None });
+    }
+    match line {
+        [b'r' | b't' | b'a', .., b' ', b'c', b'u', b't', b' ', k @ b'0'..=b'9'] => {
+            let action = parse_action(&line[..line.len() - 6])?;
+            Some(Step { action, cut: Some(k - b'0') })
+        }
+        _ => None,
+    }
+}
+
+fn parse_action(line: &[u8]) -> Option<Action> {
     match *line {
         [b'r', b' ', p, b' ', ref view @ ..] => {
-            Some(Step::Report { p: parse_process(p)?, view: parse_view(view)? })
+            Some(Action::Report { p: parse_process(p)?, view: parse_view(view)? })
         }
         [b't', b' ', q, b' ', p] => {
-            Some(Step::Receive { from: parse_process(q)?, at: parse_process(p)? })
+            Some(Action::Receive { from: parse_process(q)?, at: parse_process(p)? })
         }
         [b'a', b' ', p, b' ', q] => {
-            Some(Step::Respond { p: parse_process(p)?, to: parse_process(q)? })
+            Some(Action::Respond { p: parse_process(p)?, to: parse_process(q)? })
         }
-        [b's', b' ', p] => Some(Step::Crash { p: parse_process(p)? }),
+        [b's', b' ', p] => Some(Action::Crash { p: parse_process(p)? }),
         _ => None,
     }
 }
@@ -104,25 +117,37 @@ fn fitting(line: &[u8], form: &[u8]) -> u32 {
 
 /// The column of a bad line after the first.
 fn column(line: &[u8]) -> u32 {
-    let form: &[u8] = match line.first() {
-        Some(b'r') => b"r P ",
-        Some(b't') => b"t P P",
-        Some(b'a') => b"a P P",
-        Some(b's') => b"s P",
+    let (form, cut): (&[u8], &[u8]) = match line.first() {
+        Some(b'r') => (b"r P ", b" cut P"),
+        Some(b't') => (b"t P P", b" cut P"),
+        Some(b'a') => (b"a P P", b" cut P"),
+        Some(b's') => (b"s P", b""),
         _ => return 1,
     };
-    match (fitting(line, form), &line[form.len().min(line.len())..]) {
-        (4, [b'-', ..]) if line[0] == b'r' => 6,
-        (4, view) if line[0] == b'r' => {
-            let rising = view.iter().scan(b'0', |last, &digit| {
-                let rises = *last < digit && digit <= b'8';
-                *last = digit;
-                rises.then_some(())
-            });
-            5 + rising.count() as u32
-        }
-        (count, _) => 1 + count,
+    let mut at = fitting(line, form) as usize;
+    if at < form.len() {
+        return 1 + at as u32;
     }
+    if line[0] == b'r' {
+        at += view_length(&line[at..]);
+        if at == form.len() {
+            return 1 + at as u32;
+        }
+    }
+    1 + at as u32 + fitting(&line[at..], cut)
+}
+
+/// How many bytes of a view stand first.
+fn view_length(field: &[u8]) -> usize {
+    if field.first() == Some(&b'-') {
+        return 1;
+    }
+    let rising = field.iter().scan(b'0', |last, &digit| {
+        let rises = *last < digit && digit <= b'8';
+        *last = digit;
+        rises.then_some(())
+    });
+    rising.count()
 }
 
 fn print_outcome(out: &mut Vec<u8>, line_number: u32, outcome: Outcome) {

@@ -6,9 +6,15 @@ use super::soundness::sound;
 use super::system::System;
 use super::view::{ProcessId, View};
 
-/// One of the four steps.
+/// A step: an action, whole or cut.
 #[derive(Clone, Copy, Debug, PartialEq, Eq)]
-pub enum Step {
+pub struct Step {
+    pub action: Action,
+    pub cut: Option<u8>,
+}
+
+#[derive(Clone, Copy, Debug, PartialEq, Eq)]
+pub enum Action {
     Report {
         p: ProcessId,
         view: View,
@@ -40,11 +46,11 @@ impl Step {
 
     /// Does the step on a system known to be sound.
     pub fn run_on_sound(self, system: &mut System) -> Outcome {
-        match self {
-            Step::Report { p, view } => algorithm::report(system, p, view),
-            Step::Receive { from, at } => algorithm::receive(system, from, at),
-            Step::Respond { p, to } => algorithm::respond(system, p, to),
-            Step::Crash { p } => algorithm::crash(system, p),
+        match self.action {
+            Action::Report { p, view } => algorithm::report(system, p, view, self.cut),
+            Action::Receive { from, at } => algorithm::receive(system, from, at, self.cut),
+            Action::Respond { p, to } => algorithm::respond(system, p, to, self.cut),
+            Action::Crash { p } => algorithm::crash(system, p, self.cut),
         }
     }
 }

@@ -1,11 +1,11 @@
--- `parse::parse_report`: the process, and then a view to the end of the line, or not.
+-- `parse::parse_report`: the process, a view, and what follows it.
 use borrow.Author.Needs.{needs}
 use mathlib.Core.Path.{sym}
 use native.Mathlib.Omega.{arith}
 use lib.ListN.{drop}
 use Rattle.print.specs.Text.{bytes}
 use Rattle.sheet.proofs.Parsing.{view-near}
-use Rattle.sheet.proofs.FirstBytes.{report-short, report-good, report-bad}
+use Rattle.sheet.proofs.FirstBytes.{report-short, report-on, report-stuck}
 use Rattle.sheet.proofs.parse.parse_report.Statement.{statement}
 use Rattle.sheet.proofs.parse.parse_report.Tie as tie
 
@@ -15,25 +15,25 @@ returns c =
     let pre = c .before .before .before .before .pre in
     sym (report-short _ _ (pre .0) (pre .1) (c .before .reach .ensures) (c .if1 .taken))
 
-add-t17 : tie.Need-add-t17
-add-t17 c =
-    let v = c .before .before in
+read-on-requires : tie.Need-read-on-requires
+read-on-requires c κs =
+    let v = c .before .before .before in
     omega (arith, view-near (v .view-at .result) 4 (drop 4 (v .before .before .before .before .before .args .l .now)) (v .view-at .ensures))
 
 returns-2 : tie.Need-returns-2
 unfolding bytes
 returns-2 c =
-    let v = c .before .before .before in
+    let v = c .before .before .before .before in
     let pre = v .before .before .before .before .before .pre in
-    rw (c .digit-at .ensures)
-    (sym (report-good _ _ (pre .0) (pre .1) (v .before .before .reach .ensures) (v .before .if1 .left) _ _ (v .view-at .ensures) (c .before .before .and .ensures) (c .before .if2 .taken)))
+    rw (c .read-on .ensures, c .before .digit-at .ensures)
+    (sym (report-on _ _ (pre .0) (pre .1) (v .before .before .reach .ensures) (v .before .if1 .left) _ (v .view-at .ensures) (c .before .before .if2 .taken)))
 
 returns-3 : tie.Need-returns-3
 unfolding bytes
 returns-3 c =
     let v = c .before .before in
     let pre = v .before .before .before .before .before .pre in
-    sym (report-bad _ _ (pre .0) (pre .1) (v .before .before .reach .ensures) (v .before .if1 .left) _ _ (v .view-at .ensures) (c .before .and .ensures) (c .if2 .left))
+    sym (report-stuck _ _ (pre .0) (pre .1) (v .before .before .reach .ensures) (v .before .if1 .left) _ (v .view-at .ensures) (c .if2 .left))
 
 pub parse-report-spec : {M : Type 1} → statement M
 parse-report-spec =
@@ -45,7 +45,6 @@ parse-report-spec =
     returns
     (λ c κs. search needs)
     (λ c κs. search needs)
-    (λ c κs. search needs)
-    add-t17
+    read-on-requires
     returns-2
     returns-3)
