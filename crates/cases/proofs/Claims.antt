@@ -24,8 +24,8 @@ use Rattle.print.specs.Text.{bytes, textUpTo, digits, decimal, memberText, view
 use Rattle.print.specs.Print.{numberedLine, columnLine, entryText, entryTextAt, historyText, unitLine, unitOf, unitLines}
 use Rattle.sheet.specs.Lines.{inFirst, withByte, linesOf}
 use Rattle.sheet.specs.Grammar.{piece, passed, ended, followed, readings, some, begins, greatest, column, firstOf, read}
-use Rattle.sheet.specs.Parse.{opened, parsed}
-use Rattle.run.specs.Output.{answered, lineDone, printedThen, printedFrom, badFrom, startedBy, linesOutput, output}
+use Rattle.sheet.specs.Parse.{meaningFirst, meaning, opened, parsed}
+use Rattle.run.specs.Output.{answered, badLine, lineDone, printedThen, printedFrom, badFrom, startedBy, linesOutput, output}
 use Rattle.cases.specs.Systems.{two, withValues, withStop, withRecord, withWritten, loaded, withMessages, lone}
 use Rattle.cases.specs.Worked.{textOf, stepIn, stepsIn, stepsOf, printedBy, openedWith, startOf, ranOn, queueIn, resultOf, expectedResult}
 use Rattle.cases.specs.Sheets.{k-sheets, k1, k1-ends, k2, k3, k4, k4-full, k5-stays, k5, k6, k7, k8, k8-nine, k9, form-sheets, no-last-lf, later-u, empty-lines, first-u9, one-lf, empty}
@@ -48,7 +48,7 @@ unfolding pick allUpTo eachUpTo at put has within with everyone firstFrom leastO
     bytes textUpTo digits decimal memberText viewText
     numberedLine columnLine entryText entryTextAt historyText unitLine unitOf unitLines
     inFirst withByte linesOf flatMap piece passed ended followed readings some begins greatest column firstOf read opened parsed
-    answered lineDone printedThen printedFrom badFrom startedBy linesOutput output
+    answered meaningFirst meaning badLine lineDone printedThen printedFrom badFrom startedBy linesOutput output
     withValues withStop withRecord withWritten loaded withMessages lone
     textOf stepIn stepsIn stepsOf printedBy openedWith startOf ranOn queueIn resultOf expectedResult
     k1 k1-ends k2 k3 k4 k4-full k5-stays k5 k6 k7 k8 k8-nine k9 no-last-lf later-u empty-lines first-u9 one-lf empty

@@ -1,19 +1,21 @@
 -- Laws of a list of steps: one order more.
 use Prim.Native.Nat.{ℕ, zero, suc, _+_, _-_, _*_, _/_, _%_, _<_, _≤_, min}
 use mathlib.Core.Path.{_≡_, refl, sym, _∙_, ap}
-use mathlib.Core.Bool.{Bool, true, false}
+use mathlib.Core.Bool.{Bool, true, false, _&&_, not}
 use mathlib.Core.List.{List, [], _∷_, _++_, append-assoc, append-nil}
 use native.Mathlib.Omega.{arith}
 use native.Mathlib.Nat.{not-suc-le-zero, le-of-suc-le-suc}
 use native.Mathlib.Numerals.{add-one}
+use borrow.Author.Tests.{eq-eqb}
 use lib.Dec.{eqb}
 use lib.ListN.{length, take, drop, set, length-set, take-append-drop}
 use Rattle.view.specs.Logic.{pick}
+use Rattle.view.proofs.Laws.{and-left, and-right, and-intro, true-is-not-false}
 use Rattle.system.specs.declared.System.{System}
 use Rattle.system.specs.declared.Outcome.{Outcome}
 use Rattle.image.specs.Image.{systemIn}
 use Rattle.engine.specs.declared.Order.{Order}
-use Rattle.engine.specs.Engine.{orderCount, orderAt, ordersFrom, obeyed, numbersOf, systemAfter}
+use Rattle.engine.specs.Engine.{orderCount, orderAt, ordersFrom, obeyed, numbersOf, systemAfter, allRefused}
 
 take-set : (l : List ℕ) (k r : ℕ) → k < length l → take (suc k) (set l k r) ≡ take k l ++ (r ∷ [])
 take-set [] k r h = absurd (not-suc-le-zero h)
@@ -66,6 +68,11 @@ module _ (list : List ℕ) (first : System) (m₀ : List ℕ) (all : ℕ) where
         rest = rw add-one (drop-set m k r ∙ drop-one m k ∙ ap (drop 1) (so-far .rest) ∙ sym (drop-one m₀ k));
       }
 
+  -- the numbers of all orders are the first of the slice
+  pub all-told : (s : System) (m : List ℕ) (k : ℕ) → k ≡ all → SoFar list first m₀ all k s m → numbersOf first (ordersFrom all list 0) ≡ take k m
+  unfolding ordersFrom numbersOf
+  all-told s m k end so-far = let e : all - k ≡ 0 = omega arith in (rw e at (so-far .numbers)) ∙ append-nil (take k m)
+
   -- all orders are obeyed
   pub all-obeyed : (s : System) (m : List ℕ) (k : ℕ) → k ≡ all → SoFar list first m₀ all k s m
       → (s ≡ systemAfter first (ordersFrom all list 0)) × (m ≡ numbersOf first (ordersFrom all list 0) ++ drop k m₀)
@@ -73,7 +80,7 @@ module _ (list : List ℕ) (first : System) (m₀ : List ℕ) (all : ℕ) where
   all-obeyed s m k end so-far =
       let e : all - k ≡ 0 = omega arith in (
         sym (rw e at (so-far .system)),
-        sym (ap (λ (l : List ℕ). l ++ drop k m₀) ((rw e at (so-far .numbers)) ∙ append-nil (take k m)) ∙ ap (λ (l : List ℕ). take k m ++ l) (sym (so-far .rest)) ∙ take-append-drop k m),
+        sym (ap (λ (l : List ℕ). l ++ drop k m₀) (all-told s m k end so-far) ∙ ap (λ (l : List ℕ). take k m ++ l) (sym (so-far .rest)) ∙ take-append-drop k m),
       )
 
 pub orders-long : (k : ℕ) (list : List ℕ) (i : ℕ) → length (ordersFrom k list i) ≡ k
@@ -89,3 +96,18 @@ order-inside list m all k e h = go (eqb (length list % 4) 0) e
     go : (b : Bool) → all ≡ min (length m) (pick b (length list / 4) (length list / 4 + 1)) → (4 * k ≤ length list) × (k < length m)
     go true f = (omega arith, omega arith)
     go false f = (omega arith, omega arith)
+
+-- ---- where every one is refused, the bytes stay
+refused-append : (ks : List ℕ) (r : ℕ) → allRefused (ks ++ (r ∷ [])) ≡ true → (allRefused ks ≡ true) × (r ≡ 0 → ⊥)
+unfolding allRefused
+refused-append [] r e = (refl, λ z. true-is-not-false (sym e ∙ ap (λ (b : Bool). not b && true) (eq-eqb r 0 z)))
+refused-append (k ∷ ks) r e =
+    let rest = refused-append ks r (and-right (not (eqb k 0)) (allRefused (ks ++ (r ∷ []))) e) in
+    (and-intro (and-left (not (eqb k 0)) (allRefused (ks ++ (r ∷ []))) e) (rest .0), rest .1)
+
+-- bytes b became c by the orders so far, and c became d by one more, whose number is r
+pub still-kept : (b c d m : List ℕ) (k r : ℕ) → k < length m → (allRefused (take k m) ≡ true → c ≡ b) → ((r ≡ 0 → ⊥) → d ≡ c)
+    → allRefused (take (k + 1) (set m k r)) ≡ true
+    → d ≡ b
+still-kept b c d m k r room before now e =
+    let parts = refused-append (take k m) r (rw (add-one k, take-set m k r room) at e) in now (parts .1) ∙ before (parts .0)

@@ -1,7 +1,7 @@
 -- What a step, and a list of steps, on an image answers and leaves in it.
 use Prim.Native.Nat.{ℕ, zero, suc, _+_, _-_, _*_, _/_, _%_, min}
 use mathlib.Core.Path.{_≡_}
-use mathlib.Core.Bool.{true}
+use mathlib.Core.Bool.{Bool, true, _&&_, not}
 use mathlib.Core.List.{List, [], _∷_, _++_}
 use lib.Dec.{eqb, ltb}
 use lib.ListN.{length, getD, drop}
@@ -79,8 +79,15 @@ unfoldable pub systemAfter : System → List Order → System
 systemAfter s [] = s
 systemAfter s (o ∷ os) = systemAfter (obeyed s o .system) os
 
+-- every one of the numbers is a refusal
+unfoldable pub allRefused : List ℕ → Bool
+allRefused [] = true
+allRefused (k ∷ ks) = not (eqb k 0) && allRefused ks
+
 -- a list of steps on bytes b, its numbers into a slice m: r were done; b becomes c, and m becomes their numbers with what lay past them
 pub record Performs (list b m : List ℕ) (r : ℕ) (c k : List ℕ) : Type 0 where
   pub count : r ≡ length (ordersIn (length m) list)
   pub system : systemIn c ≡ systemAfter (systemIn b) (ordersIn (length m) list)
   pub numbers : k ≡ numbersOf (systemIn b) (ordersIn (length m) list) ++ drop r m
+  -- where none is done, as on an image that is not sound or has another length, every byte is as it was
+  pub kept : allRefused (numbersOf (systemIn b) (ordersIn (length m) list)) ≡ true → c ≡ b

@@ -278,7 +278,7 @@ fn order_of(kind: u8, x: u8, y: u8, cut: Cut) -> Order
 // What an order of a list does to an image whose system is sound, or is not.
 fn obey(image: &mut [u8], good: bool, order: Order) -> u8
     requires { ⌜ good ≡ soundSystem (systemIn (now image)) ⌝ }
-    ensures { λ r. ⌜ (record { refusal = r; system = systemIn (now (image .exit)) } ≡ obeyed (systemIn (now (image .entry))) order) × (good ≡ soundSystem (systemIn (now (image .exit)))) ⌝ }
+    ensures { λ r. ⌜ (Gives (obeyed (systemIn (now (image .entry))) order) (now (image .entry)) r (now (image .exit))) × (good ≡ soundSystem (systemIn (now (image .exit)))) ⌝ }
 {
     match order {
         Order::Unknown => BAD_LINE,

@@ -4,7 +4,7 @@ ghost use lib.Dec.{eqb};
 ghost use lib.ListN.{length};
 ghost use Rattle.view.specs.Logic.{pick};
 ghost use Rattle.system.specs.Fresh.{freshSystem};
-ghost use Rattle.image.specs.Image.{imageWidth, systemIn};
+ghost use Rattle.image.specs.Image.{imageWidth, systemIn, Becomes};
 ghost use Rattle.fresh.specs.Fresh.{blankSystem, withFresh};
 use image::IMAGE;
 use image::put_entry;
@@ -44,7 +44,7 @@ fn put_process(image: &mut [u8], n: u8, p: ProcessId)
 
 // The bytes become the image of the fresh system of n processes, where they have an image's length.
 pub fn put_fresh(image: &mut [u8], n: u8)
-    ensures { λ r. ⌜ systemIn (now (image .exit)) ≡ pick (eqb (length (now (image .entry))) imageWidth) (freshSystem n) (systemIn (now (image .entry))) ⌝ }
+    ensures { λ r. ⌜ Becomes (pick (eqb (length (now (image .entry))) imageWidth) (freshSystem n) (systemIn (now (image .entry)))) (now (image .entry)) (now (image .exit)) ⌝ }
 {
     if image.len() == IMAGE {
         put_blank(image, n);

@@ -1,6 +1,7 @@
 -- The image of a system: 2,097 bytes, in which it is kept. One byte is n; eight processes of 62 bytes follow, and then sixty-four
 -- channels of 25 bytes. docs/IMAGE.md has the layout as a table.
 use Prim.Native.Nat.{ℕ, zero, suc, _+_, _*_}
+use mathlib.Core.Path.{_≡_}
 use mathlib.Core.List.{List, [], _∷_, _++_}
 use lib.Dec.{eqb, leb}
 use lib.ListN.{length, getD, drop}
@@ -161,3 +162,8 @@ noSystem = record { n = 0; processes = []; channels = [] }
 -- the system that bytes hold
 unfoldable pub systemIn : List ℕ → System
 systemIn b = pick (eqb (length b) imageWidth) (decoded b) noSystem
+
+-- bytes b become bytes c, which hold system t; bytes of another length than an image's stay as they were
+pub record Becomes (t : System) (b c : List ℕ) : Type 0 where
+  pub system : systemIn c ≡ t
+  pub kept : (length b ≡ imageWidth → ⊥) → c ≡ b

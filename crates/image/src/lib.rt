@@ -9,7 +9,7 @@ ghost use Rattle.view.specs.Logic.{pick, at};
 ghost use Rattle.channel.specs.Channel.{emptyChannel, blank, front, pushed, popped};
 ghost use Rattle.system.specs.Process.{entryAt, withEntry, pendingAt, withPending, withVariables, withHistory};
 ghost use Rattle.system.specs.System.{processAt, variablesAt, withProcess, channelNumber, channelAt, withChannel};
-ghost use Rattle.image.specs.Image.{messageBytes, pendingBytes, messageOf, pendingOf, variablesOf, systemIn};
+ghost use Rattle.image.specs.Image.{messageBytes, pendingBytes, messageOf, pendingOf, variablesOf, systemIn, Becomes};
 ghost use Rattle.image.specs.Image.{processesPlace, processWidth, channelsPlace, channelWidth};
 ghost use Rattle.image.specs.Rows.{RowAt, ThreeAt, withThree};
 use channel::Front;
@@ -160,7 +160,7 @@ pub fn flag_byte(x: bool) -> u8
 }
 
 pub fn put_variables(image: &mut [u8], p: ProcessId, x: Variables)
-    ensures { λ r. ⌜ systemIn (now (image .exit)) ≡ withProcess (systemIn (now (image .entry))) (p .0) (withVariables (processAt (systemIn (now (image .entry))) (p .0)) x) ⌝ }
+    ensures { λ r. ⌜ Becomes (withProcess (systemIn (now (image .entry))) (p .0) (withVariables (processAt (systemIn (now (image .entry))) (p .0)) x)) (now (image .entry)) (now (image .exit)) ⌝ }
 {
     let at = process_place(image, p);
     if at < IMAGE {
@@ -213,7 +213,7 @@ pub fn pending_at(image: &[u8], p: ProcessId, q: ProcessId) -> Pending
 }
 
 pub fn put_pending(image: &mut [u8], p: ProcessId, q: ProcessId, x: Pending)
-    ensures { λ r. ⌜ systemIn (now (image .exit)) ≡ withProcess (systemIn (now (image .entry))) (p .0) (withPending (processAt (systemIn (now (image .entry))) (p .0)) (q .0) x) ⌝ }
+    ensures { λ r. ⌜ Becomes (withProcess (systemIn (now (image .entry))) (p .0) (withPending (processAt (systemIn (now (image .entry))) (p .0)) (q .0) x)) (now (image .entry)) (now (image .exit)) ⌝ }
 {
     let base = process_place(image, p);
     let k = place(8, q.0);
@@ -243,7 +243,7 @@ pub fn entry_at(image: &[u8], p: ProcessId, i: GroupIndex) -> u8
 }
 
 pub fn put_entry(image: &mut [u8], p: ProcessId, i: GroupIndex, view: u8)
-    ensures { λ r. ⌜ systemIn (now (image .exit)) ≡ withProcess (systemIn (now (image .entry))) (p .0) (withHistory (processAt (systemIn (now (image .entry))) (p .0)) (withEntry (processAt (systemIn (now (image .entry))) (p .0) .history) (i .0) view)) ⌝ }
+    ensures { λ r. ⌜ Becomes (withProcess (systemIn (now (image .entry))) (p .0) (withHistory (processAt (systemIn (now (image .entry))) (p .0)) (withEntry (processAt (systemIn (now (image .entry))) (p .0) .history) (i .0) view))) (now (image .entry)) (now (image .exit)) ⌝ }
 {
     let base = process_place(image, p);
     let k = place(32, i.0);
@@ -320,7 +320,7 @@ pub fn front_at(image: &[u8], q: ProcessId, p: ProcessId) -> Front
 
 // One message more at the end of that channel, where there is room.
 pub fn push(image: &mut [u8], q: ProcessId, p: ProcessId, m: Message)
-    ensures { λ r. ⌜ systemIn (now (image .exit)) ≡ withChannel (systemIn (now (image .entry))) (q .0) (p .0) (pushed (channelAt (systemIn (now (image .entry))) (q .0) (p .0)) m) ⌝ }
+    ensures { λ r. ⌜ Becomes (withChannel (systemIn (now (image .entry))) (q .0) (p .0) (pushed (channelAt (systemIn (now (image .entry))) (q .0) (p .0)) m)) (now (image .entry)) (now (image .exit)) ⌝ }
 {
     let base = channel_place(image, q, p);
     if base < IMAGE {
@@ -336,7 +336,7 @@ pub fn push(image: &mut [u8], q: ProcessId, p: ProcessId, m: Message)
 
 // The oldest message comes off that channel: the others move up.
 pub fn pop(image: &mut [u8], q: ProcessId, p: ProcessId)
-    ensures { λ r. ⌜ systemIn (now (image .exit)) ≡ withChannel (systemIn (now (image .entry))) (q .0) (p .0) (popped (channelAt (systemIn (now (image .entry))) (q .0) (p .0))) ⌝ }
+    ensures { λ r. ⌜ Becomes (withChannel (systemIn (now (image .entry))) (q .0) (p .0) (popped (channelAt (systemIn (now (image .entry))) (q .0) (p .0)))) (now (image .entry)) (now (image .exit)) ⌝ }
 {
     let base = channel_place(image, q, p);
     if base < IMAGE {
@@ -355,7 +355,7 @@ pub fn pop(image: &mut [u8], q: ProcessId, p: ProcessId)
 
 // That channel is emptied.
 pub fn clear(image: &mut [u8], q: ProcessId, p: ProcessId)
-    ensures { λ r. ⌜ systemIn (now (image .exit)) ≡ withChannel (systemIn (now (image .entry))) (q .0) (p .0) emptyChannel ⌝ }
+    ensures { λ r. ⌜ Becomes (withChannel (systemIn (now (image .entry))) (q .0) (p .0) emptyChannel) (now (image .entry)) (now (image .exit)) ⌝ }
 {
     let base = channel_place(image, q, p);
     if base < IMAGE {

@@ -1,5 +1,5 @@
 // Reading a sheet whole, and the buffers that a sheet and its output need.
-ghost use Prim.Native.Nat.{_+_, _≤_};
+ghost use Prim.Native.Nat.{min, _+_, _≤_};
 ghost use mathlib.Core.Path.{_≡_};
 ghost use lib.ListN.{length};
 ghost use lib.Seq.{paste};
@@ -27,7 +27,7 @@ pub fn output_buffer() -> [u8; 603400]
 }
 
 fn lesser(a: usize, b: usize) -> usize
-    ensures { λ r. ⌜ (r ≤ a) × (r ≤ b) ⌝ }
+    ensures { λ r. ⌜ r ≡ min a b ⌝ }
 {
     if a < b { a } else { b }
 }

@@ -22,11 +22,11 @@ process crashed next h =
     }
 
 -- K1's processes at its end: "unit 1 live next 3 1=12 2=1", "unit 2 live next 2 1=12"
-unfoldable pub k1 : System
-k1 = withProcess (freshSystem 2) 1 (process false 3 (withEntry (withEntry noEntries 1 3) 2 1))
+unfoldable pub two-units : System
+two-units = withProcess (freshSystem 2) 1 (process false 3 (withEntry (withEntry noEntries 1 3) 2 1))
 
-unfoldable pub stopped : System
-stopped = withProcess (freshSystem 1) 1 (process true 33 (withEntry (withEntry (withEntry noEntries 1 255) 10 129) 32 6))
+unfoldable pub one-stopped : System
+one-stopped = withProcess (freshSystem 1) 1 (process true 33 (withEntry (withEntry (withEntry noEntries 1 255) 10 129) 32 6))
 
 pub record Printing : Type 0 where
   pub text : List ℕ
@@ -50,8 +50,8 @@ printings =
     ∷ numberedLine 4 11 reads "4 11\n"
     ∷ columnLine 2 8 0 reads "2 8 0\n"
     ∷ columnLine 60000 8 13 reads "60000 8 13\n"
-    ∷ unitLines k1 reads "unit 1 live next 3 1=12 2=1\nunit 2 live next 2 1=12\n"
-    ∷ unitLines stopped reads "unit 1 stopped next 33 1=12345678 10=18 32=23\n"
+    ∷ unitLines two-units reads "unit 1 live next 3 1=12 2=1\nunit 2 live next 2 1=12\n"
+    ∷ unitLines one-stopped reads "unit 1 stopped next 33 1=12345678 10=18 32=23\n"
     ∷ unitLines (freshSystem 0) reads ""
     ∷ []
 

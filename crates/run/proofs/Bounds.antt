@@ -23,11 +23,12 @@ use Rattle.sheet.specs.declared.parse.Opening.the-variants.{Bad as BadFirst, Fr
 use Rattle.sheet.specs.declared.parse.Line.{Line}
 use Rattle.sheet.specs.declared.parse.Line.the-variants.{Bad, Step}
 use Rattle.sheet.specs.Lines.{linesOf}
-use Rattle.sheet.specs.Parse.{firstForms, laterForms, opened, parsed}
+use Rattle.sheet.specs.Parse.{meaningFirst, meaning, firstForms, laterForms, opened, parsed}
 use Rattle.sheet.proofs.Laws.{weight, few-bytes, few-lines}
 use Rattle.sheet.proofs.Forms.{column-from-1}
 use Rattle.sheet.proofs.GoodLines.{bad-first-column, bad-column}
-use Rattle.run.specs.Output.{Printed, answered, lineDone, printedThen, printedFrom, badFrom, startedBy, linesOutput, output}
+use Rattle.view.specs.Logic.{at}
+use Rattle.run.specs.Output.{badLine, Printed, answered, lineDone, printedThen, printedFrom, badFrom, startedBy, linesOutput, output}
 
 -- ---- every number has at most two digits
 unfoldable below : ℕ → List ℕ → Bool
@@ -57,7 +58,7 @@ column-room k column n hk hn near =
 
 -- ---- a line
 line-room : (k : ℕ) (s : System) (l : List ℕ) (x : Line) → parsed l ≡ x → k < 100000 → length l ≤ 60000 → length (lineDone k s x .text) ≤ max 1 (length l) * 10
-unfolding lineDone answered
+unfolding lineDone answered badLine meaning at
 line-room k s l (Bad column) e hk hl = column-room k column (length l) hk hl (rw (bad-column l column e) (column-from-1 laterForms l .1))
 line-room k s l (Step o) e hk hl = omega (arith, numbered-length k (stepped s o .refusal) hk (two-digits s o))
 
@@ -78,7 +79,7 @@ bad-length k (l ∷ ls) h =
     (omega (arith, column-length 0 k 8 0 (omega arith) (omega arith) (omega arith), bad-length (suc k) ls (omega arith)))
 
 started-length : (l : List ℕ) (ls : List (List ℕ)) (x : Opening) → opened l ≡ x → max 1 (length l) + weight ls ≤ 60000 → length (startedBy x ls) ≤ 603400
-unfolding startedBy
+unfolding startedBy badLine meaningFirst at
 started-length l ls (Fresh n) e w = omega (arith, few-lines ls, printed-length 2 (freshSystem n) ls (omega (arith, few-lines ls)) (omega arith))
 started-length l ls (BadFirst column) e w =
     rw (length-append (columnLine 1 8 column) (badFrom 2 ls))

@@ -7,7 +7,7 @@ use native.Mathlib.Numerals.{add-one}
 use borrow.Author.Tests.{lt-ltb, le-ltb, eq-eqb}
 use lib.Dec.{eqb}
 use lib.ListN.{length, take, drop}
-use Rattle.view.specs.Logic.{pick, isOneOf}
+use Rattle.view.specs.Logic.{at, pick, isOneOf}
 use Rattle.system.specs.declared.System.{System}
 use Rattle.system.specs.Fresh.{freshSystem}
 use Rattle.image.specs.Image.{imageWidth, systemIn}
@@ -19,10 +19,10 @@ use Rattle.sheet.specs.declared.parse.Opening.{Opening}
 use Rattle.sheet.specs.declared.parse.Opening.the-variants.{Bad as BadFirst, Fresh}
 use Rattle.sheet.specs.declared.parse.Line.{Line}
 use Rattle.sheet.specs.Lines.{linesOf}
-use Rattle.sheet.specs.Parse.{opened, parsed}
+use Rattle.sheet.specs.Parse.{meaningFirst, opened, parsed}
 use Rattle.sheet.proofs.Laws.{Cut}
 use Rattle.sheet.proofs.GoodLines.{fresh-size}
-use Rattle.run.specs.Output.{lineDone, printedThen, printedFrom, badFrom, startedBy, linesOutput, output}
+use Rattle.run.specs.Output.{badLine, lineDone, printedThen, printedFrom, badFrom, startedBy, linesOutput, output}
 
 -- total is the page in the end, p the page before the line and q the page after it
 then : (total p q : Page) (a b : List ℕ) → total ≡ typed p (a ++ b) → q ≡ typed p a → total ≡ typed q b
@@ -50,7 +50,7 @@ printed-end total p q sheet at line s none whole here = here ∙ sym (whole ∙ 
 
 -- after a bad first line: its own column, and then 0
 pub bad-begins : (p q : Page) (column : ℕ) (ls : List (List ℕ)) → q ≡ typed p (columnLine 1 8 column) → typed p (startedBy (BadFirst column) ls) ≡ typed q (badFrom 2 ls)
-unfolding startedBy
+unfolding startedBy badLine meaningFirst at
 bad-begins p q column ls here = then _ p q (columnLine 1 8 column) (badFrom 2 ls) refl here
 
 pub bad-again : (total p q : Page) (sheet : List ℕ) (at start end next line : ℕ) → Cut sheet at start end next

@@ -7,7 +7,7 @@ use Prim.Native.Nat.{ℕ, suc}
 use mathlib.Core.List.{List, [], _∷_, _++_}
 use lib.Dec.{ltb}
 use lib.ListN.{length}
-use Rattle.view.specs.Logic.{pick}
+use Rattle.view.specs.Logic.{pick, at}
 use Rattle.system.specs.declared.System.{System}
 use Rattle.system.specs.declared.Outcome.{Outcome}
 use Rattle.system.specs.Fresh.{freshSystem}
@@ -19,7 +19,7 @@ use Rattle.sheet.specs.declared.parse.Opening.the-variants.{Bad as BadFirst, Fr
 use Rattle.sheet.specs.declared.parse.Line.{Line}
 use Rattle.sheet.specs.declared.parse.Line.the-variants.{Bad, Step}
 use Rattle.sheet.specs.Lines.{linesOf}
-use Rattle.sheet.specs.Parse.{opened, parsed}
+use Rattle.sheet.specs.Parse.{Meaning, meaningFirst, meaning, opened, parsed}
 
 -- what is printed for a line, and the system after it
 pub record Printed : Type 0 where
@@ -30,9 +30,13 @@ pub record Printed : Type 0 where
 unfoldable pub answered : ℕ → Outcome → Printed
 answered k o = record { text = numberedLine k (o .refusal); system = o .system }
 
+-- line k, which is bad: its number, and its value, the column
+unfoldable pub badLine : ℕ → Meaning → List ℕ
+badLine k m = columnLine k (m .number) (at (m .values) 1 0)
+
 -- line k after a good first line: its step, or 8 and the column
 unfoldable pub lineDone : ℕ → System → Line → Printed
-lineDone k s (Bad column) = record { text = columnLine k 8 column; system = s }
+lineDone k s (Bad column) = record { text = badLine k (meaning (Bad column)); system = s }
 lineDone k s (Step o) = answered k (stepped s o)
 
 -- a line, and what is printed after it
@@ -52,7 +56,7 @@ badFrom k (l ∷ ls) = columnLine k 8 0 ++ badFrom (suc k) ls
 -- a good first line starts a fresh system; a bad one has its own column
 unfoldable pub startedBy : Opening → List (List ℕ) → List ℕ
 startedBy (Fresh n) ls = printedFrom 2 (freshSystem n) ls
-startedBy (BadFirst column) ls = columnLine 1 8 column ++ badFrom 2 ls
+startedBy (BadFirst column) ls = badLine 1 (meaningFirst (BadFirst column)) ++ badFrom 2 ls
 
 unfoldable pub linesOutput : List (List ℕ) → List ℕ
 linesOutput [] = []

@@ -2,12 +2,14 @@
 -- of one; the column of a line is one more than the bytes that can be followed; and a line is read byte by byte.
 use Prim.Native.Nat.{ℕ, zero, suc, _+_, _≤_, _<_}
 use Prim.Native.Char.{code}
-use mathlib.Core.Path.{_≡_, refl, sym, _∙_, ap}
+use mathlib.Core.Path.{_≡_, refl, sym, _∙_, ap, subst}
 use mathlib.Core.Bool.{Bool, true, false, _||_}
 use mathlib.Core.List.{List, [], _∷_, _++_, flatMap, append-assoc}
+use native.Mathlib.Nat.{le-of-eq}
 use native.Mathlib.Omega.{arith}
 use borrow.Author.Tests.{eq-eqb}
 use lib.ListN.{length, take}
+use lib.Seq.{take-all}
 use Rattle.view.specs.Logic.{pick}
 use Rattle.view.specs.View.{with}
 use Rattle.view.proofs.Laws.{true-is-not-false, or-left, or-right, by-pick, by-test}
@@ -143,6 +145,18 @@ greatest-small : (n : ℕ) (f : ℕ → Bool) → greatest n f ≤ n
 unfolding greatest
 greatest-small zero f = omega arith
 greatest-small (suc n) f = by-pick (λ (k : ℕ). k ≤ suc n) (f (suc n)) _ _ (λ e. omega arith) (λ e. omega (arith, greatest-small n f))
+
+greatest-top : (n : ℕ) (f : ℕ → Bool) → f n ≡ true → greatest n f ≡ n
+unfolding greatest pick
+greatest-top zero f e = refl
+greatest-top (suc n) f e = rw e
+
+-- "for a line that merely breaks off, that is its length plus 1"
+pub column-past-the-end : {A : Type 0} (xs : List (Form A)) (l : List ℕ) → begins xs l ≡ true → column xs l ≡ length l + 1
+unfolding column
+column-past-the-end xs l e =
+    ap (λ (k : ℕ). k + 1)
+    (greatest-top (length l) (λ k. begins xs (take k l)) (subst (λ (t : List ℕ). begins xs t ≡ true) (sym (take-all (length l) l (le-of-eq refl))) e))
 
 -- "counted from 1"; at most one more than the line's length, where it merely breaks off
 pub column-from-1 : {A : Type 0} (xs : List (Form A)) (l : List ℕ) → (1 ≤ column xs l) × (column xs l ≤ length l + 1)

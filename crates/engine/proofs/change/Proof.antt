@@ -7,9 +7,9 @@ use Rattle.engine.proofs.change.Tie as tie
 returns : tie.Need-returns
 returns c =
     change-made _ _ _ _ _ _
-    (c .before .before .before .before .before .before .before .before .before .before .put-variables .ensures)
-    (c .before .before .before .before .before .before .put-pending .ensures)
-    (c .before .before .put-entry .ensures)
+    (c .before .before .before .before .before .before .before .before .before .before .put-variables .ensures .system)
+    (c .before .before .before .before .before .before .put-pending .ensures .system)
+    (c .before .before .put-entry .ensures .system)
 
 pub change-spec : {M : Type 1} → statement M
 change-spec =

@@ -29,13 +29,13 @@ loop-again : tie.Need-loop-again Inv-loop μ-loop
 unfolding emptiedFrom
 loop-again c =
     let l = c .before .before .before .before .before .loop .inv in
-    (omega arith, c .before .before .clear .kept .0 ∙ l .1, c .before .before .clear .ensures ∙ ap (emptiedFrom _ _) (l .2) ∙ sym (each-more _ _ _))
+    (omega arith, c .before .before .clear .kept .0 ∙ l .1, c .before .before .clear .ensures .system ∙ ap (emptiedFrom _ _) (l .2) ∙ sym (each-more _ _ _))
 
 returns : tie.Need-returns Inv-loop μ-loop
 unfolding crashedAt asCrashed
 returns c =
     let end : c .before .loop .q ≡ 8 = omega arith in
-    rw end at (c .before .loop .inv .2) ∙ ap (eachUpTo 8 (emptiedFrom _)) (c .before .before .before .before .put-variables .ensures ∙ simp (c .before .before .before .before .before .before .variables-at .ensures))
+    rw end at (c .before .loop .inv .2) ∙ ap (eachUpTo 8 (emptiedFrom _)) (c .before .before .before .before .put-variables .ensures .system ∙ simp (c .before .before .before .before .before .before .variables-at .ensures))
 
 pub crash-spec : {M : Type 1} → statement M
 crash-spec =

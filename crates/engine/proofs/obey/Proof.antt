@@ -1,5 +1,5 @@
 -- `engine::obey`: by what the order is, and whether the system is sound.
-use mathlib.Core.Path.{sym, _∙_, ap}
+use mathlib.Core.Path.{refl, sym, _∙_, ap}
 use Rattle.view.specs.Logic.{pick}
 use Rattle.step.specs.Step.{stepped}
 use Rattle.engine.specs.Engine.{obeyed}
@@ -9,18 +9,18 @@ use Rattle.engine.proofs.obey.Tie as tie
 
 returns : tie.Need-returns
 unfolding obeyed
-returns c = (simp (c .enum-told .given .1), c .before .before .before .pre)
+returns c = (record { outcome = simp (c .enum-told .given .1); kept = λ no. refl }, c .before .before .before .pre)
 
 returns-2 : tie.Need-returns-2
 unfolding obeyed
 returns-2 c =
     let sound = sym (c .before .before .before .before .before .before .before .before .before .pre) ∙ c .before .before .before .before .if1 .taken in
     let a = c .before .before .attempt .ensures in
-    (a .steps sound .outcome ∙ sym (ap (obeyed _) (c .before .before .before .before .before .before .order .given .1)), c .before .before .before .before .if1 .taken ∙ sym (a .stays sound))
+    (record { outcome = a .steps sound .outcome ∙ sym (ap (obeyed _) (c .before .before .before .before .before .before .order .given .1)); kept = a .gives .kept }, c .before .before .before .before .if1 .taken ∙ sym (a .stays sound))
 
 returns-3 : tie.Need-returns-3
 unfolding obeyed stepped pick
-returns-3 c = (simp (c .before .before .order .given .1, ← c .before .before .before .before .before .pre, c .if1 .left), c .before .before .before .before .before .pre)
+returns-3 c = (record { outcome = simp (c .before .before .order .given .1, ← c .before .before .before .before .before .pre, c .if1 .left); kept = λ no. refl }, c .before .before .before .before .before .pre)
 
 pub obey-spec : {M : Type 1} → statement M
 obey-spec =

@@ -19,7 +19,7 @@ returns-2 : tie.Need-returns-2
 unfolding sentIfNamed sent pick
 returns-2 c =
     simp (
-      c .before .before .push .ensures,
+      c .before .before .push .ensures .system,
       ← c .before .before .before .before .before .variables-at .ensures,
       c .before .before .before .before .if2 .left,
       ← c .before .before .before .before .before .before .before .before .has .ensures,

@@ -7,7 +7,7 @@ use Rattle.engine.proofs.take_off.Tie as tie
 
 returns : tie.Need-returns
 unfolding takenOff pick
-returns c = simp (c .before .before .pop .ensures, c .before .before .before .before .if1 .taken)
+returns c = simp (c .before .before .pop .ensures .system, c .before .before .before .before .if1 .taken)
 
 returns-2 : tie.Need-returns-2
 unfolding takenOff pick

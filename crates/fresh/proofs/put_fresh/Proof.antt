@@ -7,6 +7,7 @@ use lib.ListN.{length}
 use Rattle.view.specs.Logic.{pick, eachUpTo}
 use Rattle.view.proofs.Laws.{each-more}
 use Rattle.image.specs.Image.{imageWidth, systemIn}
+use Rattle.image.proofs.Becoming.{changes, stays}
 use Rattle.fresh.specs.Fresh.{blankSystem, withFresh}
 use Rattle.fresh.proofs.Blank.{all-fresh}
 use borrow.Author.Needs.{needs}
@@ -35,11 +36,12 @@ returns : tie.Need-returns Inv-loop μ-loop
 unfolding pick
 returns c =
     let end : c .before .loop .p ≡ 8 = omega arith in
-    simp (c .before .loop .inv .2, end, all-fresh, eq-eqb _ _ (c .before .before .before .before .before .before .if1 .taken))
+    changes (c .before .before .before .before .before .before .if1 .taken)
+    (simp (c .before .loop .inv .2, end, all-fresh, eq-eqb _ _ (c .before .before .before .before .before .before .if1 .taken)))
 
 returns-2 : tie.Need-returns-2 Inv-loop μ-loop
 unfolding pick
-returns-2 c = simp (ne-eqb _ _ (c .if1 .left))
+returns-2 c = stays (simp (ne-eqb _ _ (c .if1 .left)))
 
 pub put-fresh-spec : {M : Type 1} → statement M
 put-fresh-spec =

@@ -8,7 +8,7 @@ use Rattle.fresh.proofs.put_process.Tie as tie
 
 returns : tie.Need-returns
 unfolding withFresh freshVariables
-returns c = simp (c .before .before .put-entry .ensures, c .before .before .before .before .before .before .put-variables .ensures, c .before .before .before .before .before .before .before .before .everyone .ensures)
+returns c = simp (c .before .before .put-entry .ensures .system, c .before .before .before .before .before .before .put-variables .ensures .system, c .before .before .before .before .before .before .before .before .everyone .ensures)
 
 pub put-process-spec : {M : Type 1} → statement M
 put-process-spec =

@@ -6,6 +6,7 @@ use Rattle.image.specs.Image.{channelWidth}
 use Rattle.image.proofs.Laws.{Filled, none-filled, one-filled}
 use Rattle.image.proofs.Parts.{no-channel-put}
 use Rattle.image.proofs.Changes.{clear-put}
+use Rattle.image.proofs.Becoming.{changes, stays}
 use borrow.Author.Needs.{needs}
 use Rattle.image.proofs.clear.Statement.{statement}
 use Rattle.image.proofs.clear.Tie as tie
@@ -28,10 +29,11 @@ returns : tie.Need-returns Inv-loop μ-loop
 returns c =
     let l = c .before in
     let end : l .loop .i ≡ channelWidth = omega arith in
-    clear-put _ _ _ _ (l .before .before .channel-place .ensures) (l .before .if1 .taken) _ (rw end at (l .loop .inv .1))
+    changes (l .before .before .channel-place .ensures .found (l .before .if1 .taken) .0)
+    (clear-put _ _ _ _ (l .before .before .channel-place .ensures) (l .before .if1 .taken) _ (rw end at (l .loop .inv .1)))
 
 returns-2 : tie.Need-returns-2 Inv-loop μ-loop
-returns-2 c = no-channel-put _ _ _ _ (c .before .channel-place .ensures) (c .if1 .left) _
+returns-2 c = stays (no-channel-put _ _ _ _ (c .before .channel-place .ensures) (c .if1 .left) _)
 
 pub clear-spec : {M : Type 1} → statement M
 clear-spec =

@@ -7,6 +7,7 @@ use Rattle.image.specs.Image.{messageWidth, byte, systemIn}
 use Rattle.image.proofs.Laws.{Filled, none-filled, one-filled}
 use Rattle.image.proofs.Parts.{no-channel-put}
 use Rattle.image.proofs.Changes.{pop-put, empty-put}
+use Rattle.image.proofs.Becoming.{changes, stays}
 use borrow.Author.Needs.{needs}
 use Rattle.image.proofs.pop.Statement.{statement}
 use Rattle.image.proofs.pop.Tie as tie
@@ -33,16 +34,17 @@ returns c =
     let l = t .before .before .before in
     let f = l .before .before .before in
     let end : l .loop .i ≡ 7 * messageWidth = omega arith in
-    ap systemIn (t .put-three .ensures)
-    ∙ pop-put _ _ _ _ (f .before .channel-place .ensures) (f .if1 .taken) _ (l .before .if2 .taken) (rw end at (l .loop .inv .1))
+    changes (f .before .channel-place .ensures .found (f .if1 .taken) .0)
+    (ap systemIn (t .put-three .ensures)
+    ∙ pop-put _ _ _ _ (f .before .channel-place .ensures) (f .if1 .taken) _ (l .before .if2 .taken) (rw end at (l .loop .inv .1)))
 
 returns-2 : tie.Need-returns-2 Inv-loop μ-loop
 returns-2 c =
     let f = c .before .before in
-    empty-put _ _ _ _ (f .before .channel-place .ensures) (f .if1 .taken) (c .if2 .left)
+    stays (empty-put _ _ _ _ (f .before .channel-place .ensures) (f .if1 .taken) (c .if2 .left))
 
 returns-3 : tie.Need-returns-3 Inv-loop μ-loop
-returns-3 c = no-channel-put _ _ _ _ (c .before .channel-place .ensures) (c .if1 .left) _
+returns-3 c = stays (no-channel-put _ _ _ _ (c .before .channel-place .ensures) (c .if1 .left) _)
 
 pub pop-spec : {M : Type 1} → statement M
 pop-spec =

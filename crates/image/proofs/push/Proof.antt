@@ -5,6 +5,7 @@ use lib.ListN.{length, length-set}
 use Rattle.image.specs.Image.{systemIn}
 use Rattle.image.proofs.Parts.{no-channel-put}
 use Rattle.image.proofs.Changes.{push-put, full-put}
+use Rattle.image.proofs.Becoming.{changes, stays}
 use borrow.Author.Needs.{needs}
 use Rattle.image.proofs.push.Statement.{statement}
 use Rattle.image.proofs.push.Tie as tie
@@ -13,16 +14,17 @@ returns : tie.Need-returns
 returns c =
     let t = c .before .before in
     let f = t .before .before .before .before .before in
-    ap systemIn (t .put-three .ensures)
-    ∙ push-put _ _ _ _ (f .before .channel-place .ensures) (f .if1 .taken) _ _ (t .before .before .before .if2 .taken) (t .before .message-bytes .ensures)
+    changes (f .before .channel-place .ensures .found (f .if1 .taken) .0)
+    (ap systemIn (t .put-three .ensures)
+    ∙ push-put _ _ _ _ (f .before .channel-place .ensures) (f .if1 .taken) _ _ (t .before .before .before .if2 .taken) (t .before .message-bytes .ensures))
 
 returns-2 : tie.Need-returns-2
 returns-2 c =
     let f = c .before .before in
-    full-put _ _ _ _ (f .before .channel-place .ensures) (f .if1 .taken) _ (c .if2 .left)
+    stays (full-put _ _ _ _ (f .before .channel-place .ensures) (f .if1 .taken) _ (c .if2 .left))
 
 returns-3 : tie.Need-returns-3
-returns-3 c = no-channel-put _ _ _ _ (c .before .channel-place .ensures) (c .if1 .left) _
+returns-3 c = stays (no-channel-put _ _ _ _ (c .before .channel-place .ensures) (c .if1 .left) _)
 
 pub push-spec : {M : Type 1} → statement M
 push-spec =

@@ -10,7 +10,7 @@ use Rattle.run.proofs.run_fresh.Tie as tie
 
 -- what the image holds
 fresh : (c : tie.After-put-fresh) → systemIn (c .put-fresh .last .0) ≡ freshSystem (c .before .before .before .before .before .args .n)
-fresh c = fresh-in (c .before .before .image-buffer .result) (c .put-fresh .last .0) _ (c .before .before .image-buffer .ensures) (c .put-fresh .ensures)
+fresh c = fresh-in (c .before .before .image-buffer .result) (c .put-fresh .last .0) _ (c .before .before .image-buffer .ensures) (c .put-fresh .ensures .system)
 
 run-lines-requires : tie.Need-run-lines-requires
 run-lines-requires c κs = let pre = c .before .before .before .before .before .before .before .before .pre in (rw (fresh (c .before .before .before)) (fresh-valid _ (pre .0) .sound), pre .1)

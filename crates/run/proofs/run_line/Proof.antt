@@ -2,18 +2,20 @@
 use mathlib.Core.Path.{_≡_, refl, sym, _∙_, ap}
 use borrow.Author.Needs.{needs}
 use Rattle.system.specs.declared.Outcome.{Outcome}
-use Rattle.run.specs.Output.{answered, lineDone}
+use Rattle.sheet.specs.Parse.{meaning}
+use Rattle.view.specs.Logic.{at}
+use Rattle.run.specs.Output.{badLine, answered, lineDone}
 use Rattle.run.proofs.run_line.Statement.{statement}
 use Rattle.run.proofs.run_line.Tie as tie
 
 returns : tie.Need-returns
-unfolding lineDone
+unfolding lineDone badLine meaning at
 returns c =
     let e = c .before .before .before .before .before .line .given .1 in
     (rw e (c .before .before .put-column .ensures), rw e, c .before .before .before .before .before .before .before .before .before .pre)
 
 returns-2 : tie.Need-returns-2
-unfolding lineDone answered
+unfolding lineDone answered badLine meaning at
 returns-2 c =
     let t = c .before .before .before .before .before .before in
     let e = t .before .before .before .line2 .given .1 in

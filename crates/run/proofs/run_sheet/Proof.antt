@@ -4,7 +4,9 @@ use borrow.Author.Needs.{needs}
 use Rattle.print.specs.Text.{bytes}
 use Rattle.print.specs.Page.{typed}
 use Rattle.sheet.proofs.Laws.{Cut, line-found, end-found}
-use Rattle.run.specs.Output.{startedBy}
+use Rattle.sheet.specs.Parse.{meaningFirst}
+use Rattle.view.specs.Logic.{at}
+use Rattle.run.specs.Output.{badLine, startedBy}
 use Rattle.run.proofs.Laws.{output-long, output-none, output-begins, started-size}
 use Rattle.run.proofs.run_sheet.Statement.{statement}
 use Rattle.run.proofs.run_sheet.Tie as tie
@@ -28,7 +30,7 @@ unfolding typed
 returns-2 c = rw (output-none _ (c .before .before .before .if1 .left) (end-found _ _ (sym (c .before .before .read-line .ensures) ∙ c .enum-told .given .1)))
 
 returns-3 : tie.Need-returns-3
-unfolding startedBy
+unfolding startedBy badLine meaningFirst at
 returns-3 c =
     let size = c .before .before .before .before .before in
     let first = size .before .before in
