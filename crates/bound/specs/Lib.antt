@@ -1,0 +1,2 @@
+-- The bound on the takes and answers that are ever done.
+pub mod Bound
