@@ -224,7 +224,7 @@ fn steps(n: u8, done: bool) {
             }
         },
     );
-    row(format!("n {n}, {}", if done { "done" } else { "refused with 5" }), chosen.len(), time);
+    row(format!("n {n}, {}", if done { "done" } else { "refused with 10" }), chosen.len(), time);
 }
 
 /// One call with a list of steps, from a fresh image.
