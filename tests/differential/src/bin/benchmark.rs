@@ -229,7 +229,10 @@ fn steps(n: u8, done: bool) {
 
 /// One call with a list of steps, from a fresh image.
 fn list(n: u8) {
-    let steps: Vec<Step> = busy_run(n, 1_000).into_iter().map(|(_, step)| step).collect();
+    let run = busy_run(n, 1_000);
+    let refused = run.iter().filter(|(system, step)| !is_done(system, *step)).count() / 10;
+    let quiet = run.iter().filter(|(_, step)| is_quiet(*step)).count() / 10;
+    let steps: Vec<Step> = run.into_iter().map(|(_, step)| step).collect();
     let bytes: Vec<u8> = steps.iter().flat_map(|&step| our_step(step).bytes()).collect();
     let rivals: Vec<rival::Step> = steps.iter().map(|&step| rival_step(step)).collect();
     let start = encode(&reference::fresh(n).1);
@@ -253,5 +256,5 @@ fn list(n: u8) {
             }
         },
     );
-    row(format!("n {n}"), 20 * steps.len(), time);
+    row(format!("n {n}, {refused}% refused, {quiet}% quiet"), 20 * steps.len(), time);
 }
