@@ -27,7 +27,7 @@ use Rattle.step.proofs.Inversion.{by-outcome}
 use Rattle.step.proofs.SoundSteps.{step-sound}
 use Rattle.step.proofs.Outcomes.{unsound-is-1}
 use Rattle.step.proofs.Beginning.{nothing-recorded, nothing-waits, fresh-valid}
-use Rattle.bound.specs.Bound.{counted, takesAndAnswers, allDone, Bound, Further}
+use Rattle.bound.specs.Bound.{takeOrAnswerDone, takesAndAnswers, allDone, Bound, Further}
 use Rattle.bound.proofs.Sums.{pairs, pairs-fall-at, pairs-at-most}
 use Rattle.bound.proofs.Dues.{bit, unmarked, is-self, count, recorded, held, mark, ahead, stake, due}
 use Rattle.bound.proofs.Steps.{Paid, transition-pays}
@@ -48,10 +48,10 @@ total-paid {s} {t} {d} k =
           one,
     )
 
-step-paid : (s : System) → Valid s → (o : Step) → counted (stepped s o) (does o) + total (s .n) (stepped s o .system) ≤ total (s .n) s
-unfolding counted pick
+step-paid : (s : System) → Valid s → (o : Step) → takeOrAnswerDone (stepped s o) (does o) + total (s .n) (stepped s o .system) ≤ total (s .n) s
+unfolding takeOrAnswerDone pick
 step-paid s valid o =
-    by-outcome (λ (a : Outcome). counted a (does o) + total (s .n) (a .system) ≤ total (s .n) s) s o valid
+    by-outcome (λ (a : Outcome). takeOrAnswerDone a (does o) + total (s .n) (a .system) ≤ total (s .n) s) s o valid
     (λ t k. total-paid (transition-pays (valid .shape) (o .action) k))
     (λ j n. rw (ne-eqb j 0 n) (omega arith))
 
@@ -65,7 +65,7 @@ run-paid n s e valid [] = omega arith
 run-paid n s e valid (does o ∷ os) =
     omega (
       arith,
-      subst (λ (k : ℕ). counted (stepped s o) (does o) + total k (stepped s o .system) ≤ total k s) e (step-paid s valid o),
+      subst (λ (k : ℕ). takeOrAnswerDone (stepped s o) (does o) + total k (stepped s o .system) ≤ total k s) e (step-paid s valid o),
       run-paid n (stepped s o .system) (step-size s valid o ∙ e) (step-sound s o valid) os,
     )
 
@@ -105,7 +105,7 @@ fresh-bound n e os =
 
 -- ---- a system of zero processes is not sound, and nothing is done in it
 unsound-none : (s : System) → soundSystem s ≡ false → (os : List Event) → takesAndAnswers s os ≡ 0
-unfolding takesAndAnswers counted happened pick
+unfolding takesAndAnswers takeOrAnswerDone happened pick
 unsound-none s e [] = refl
 unsound-none s e (does o ∷ os) = rw (unsound-is-1 s o e) (omega (arith, unsound-none s e os))
 
@@ -146,7 +146,7 @@ all-counted : (s : System) (os : List Event) → allDone s os ≡ true → takes
 unfolding takesAndAnswers allDone
 all-counted s [] e = refl
 all-counted s (x ∷ os) e =
-    let one = counted (happened s x) x in
+    let one = takeOrAnswerDone (happened s x) x in
     let rest = allDone (happened s x .system) os in
     omega (arith, eqb-true one 1 (and-left (eqb one 1) rest e), all-counted (happened s x .system) os (and-right (eqb one 1) rest e))
 

@@ -23,18 +23,18 @@ takeOrAnswer (Respond p q) = 1
 takeOrAnswer (Crash p) = 0
 
 -- the same of what happens, whole or cut, where the outcome says that it is done and not refused
-unfoldable pub counted : Outcome → Event → ℕ
-counted a (does o) = pick (eqb (a .refusal) 0) (takeOrAnswer (o .action)) 0
+unfoldable pub takeOrAnswerDone : Outcome → Event → ℕ
+takeOrAnswerDone a (does o) = pick (eqb (a .refusal) 0) (takeOrAnswer (o .action)) 0
 
 -- how many takes and answers are done in a list of events, "each handed the table that the one before returned"
 unfoldable pub takesAndAnswers : System → List Event → ℕ
 takesAndAnswers s [] = 0
-takesAndAnswers s (e ∷ es) = counted (happened s e) e + takesAndAnswers (happened s e .system) es
+takesAndAnswers s (e ∷ es) = takeOrAnswerDone (happened s e) e + takesAndAnswers (happened s e .system) es
 
 -- each event of the list is a take or an answer, and is done
 unfoldable pub allDone : System → List Event → Bool
 allDone s [] = true
-allDone s (e ∷ es) = eqb (counted (happened s e) e) 1 && allDone (happened s e .system) es
+allDone s (e ∷ es) = eqb (takeOrAnswerDone (happened s e) e) 1 && allDone (happened s e .system) es
 
 -- the claim. A request for n outside 1 to 8 gives zero processes, with which nothing is done
 abbrev pub Bound : ℕ → List Event → Type 0

@@ -4,8 +4,7 @@ use mathlib.Core.Path.{_≡_, refl}
 use mathlib.Core.Bool.{true, false}
 use mathlib.Core.List.{map, flatMap}
 use Rattle.view.specs.Logic.{pick, allUpTo, eachUpTo, at, put, isOneOf}
-use Rattle.view.specs.View.{has, within, with, everyone, firstFrom, leastOf, countedAt, countOf, joined}
-use Rattle.view.specs.View.{firstOf as firstMembers}
+use Rattle.view.specs.View.{has, within, with, everyone, firstFrom, leastOf, countedAt, countOf, joined, firstOf}
 use Rattle.channel.specs.Channel.{emptyChannel, waiting, pushed, popped}
 use Rattle.system.specs.declared.Process.{Process}
 use Rattle.system.specs.Process.{entryAt, withEntry, asCrashed, pendingAt, withPending, withVariables, withHistory}
@@ -23,7 +22,7 @@ use Rattle.agreement.specs.Demand.{start}
 use Rattle.print.specs.Text.{bytes, textUpTo, digits, decimal, memberText, viewText}
 use Rattle.print.specs.Print.{numberedLine, columnLine, entryText, entryTextAt, historyText, unitLine, unitOf, unitLines}
 use Rattle.sheet.specs.Lines.{inFirst, withByte, linesOf}
-use Rattle.sheet.specs.Grammar.{piece, passed, ended, followed, readings, some, begins, greatest, column, firstOf, read}
+use Rattle.sheet.specs.Grammar.{piece, passed, ended, followed, readings, some, begins, greatest, column, firstReading, read}
 use Rattle.sheet.specs.Parse.{meaningFirst, meaning, opened, parsed}
 use Rattle.run.specs.Output.{answered, badLine, lineDone, printedThen, printedFrom, badFrom, startedBy, linesOutput, output}
 use Rattle.cases.specs.Systems.{two, withValues, withStop, withRecord, withWritten, loaded, withMessages, lone}
@@ -35,7 +34,7 @@ use Rattle.cases.specs.Rule.{k2-accepted, k2-agreements, k2-book, at-two
 
 -- what the claims are computed with: a claim that unfolds this one unfolds all that its line names
 definitions : Unit {0}
-unfolding pick allUpTo eachUpTo at put has within with everyone firstFrom leastOf countedAt countOf joined firstMembers
+unfolding pick allUpTo eachUpTo at put has within with everyone firstFrom leastOf countedAt countOf joined firstOf
     emptyChannel waiting pushed popped
     entryAt withEntry asCrashed pendingAt withPending withVariables withHistory
     noProcess processAt withProcess channelNumber channelAt withChannel sent sentIfNamed broadcasted takesIfNamed roomFor
@@ -47,7 +46,7 @@ unfolding pick allUpTo eachUpTo at put has within with everyone firstFrom leastO
     bookEntry openedBook apart apartFrom admits writtenIn madeIn fed fedAll noneRefused
     bytes textUpTo digits decimal memberText viewText
     numberedLine columnLine entryText entryTextAt historyText unitLine unitOf unitLines
-    inFirst withByte linesOf flatMap piece passed ended followed readings some begins greatest column firstOf read opened parsed
+    inFirst withByte linesOf flatMap piece passed ended followed readings some begins greatest column firstReading read opened parsed
     answered meaningFirst meaning badLine lineDone printedThen printedFrom badFrom startedBy linesOutput output
     withValues withStop withRecord withWritten loaded withMessages lone
     textOf stepIn stepsIn stepsOf printedBy openedWith startOf ranOn queueIn resultOf expectedResult

@@ -21,8 +21,8 @@ use Rattle.system.specs.declared.Variables.{Variables}
 use Rattle.system.specs.declared.Process.{Process}
 use Rattle.system.specs.declared.System.{System}
 use Rattle.system.specs.Fresh.{freshSystem}
-use Rattle.image.specs.Image.{messageWidth, lengthPlace, channelWidth, recordWidth, variablesWidth, processWidth, imageWidth, joined, messageBytes, slotBytes, channelBytes, pendingBytes, recordBytes, variablesBytes, processBytes, encoded, rows, byte, messageOf, slotIn, channelIn, pendingOf, recordIn, historyIn, variablesOf, variablesIn, processIn, decoded, systemIn}
-use Rattle.codec.proofs.Laws.{oneByte, bytes-joined}
+use Rattle.image.specs.Image.{messageWidth, lengthPlace, channelWidth, recordWidth, variablesWidth, processWidth, imageWidth, concatenated, messageBytes, slotBytes, channelBytes, pendingBytes, recordBytes, variablesBytes, processBytes, encoded, rows, byte, messageOf, slotIn, channelIn, pendingOf, recordIn, historyIn, variablesOf, variablesIn, processIn, decoded, systemIn}
+use Rattle.codec.proofs.Laws.{oneByte, bytes-concatenated}
 use Rattle.codec.proofs.Lengths.{ProcessLengths, ChannelLengths, Lengths}
 
 -- ---- rows
@@ -32,24 +32,24 @@ record Row {A : Type 0} (w : ℕ) (write : A → List ℕ) (read : List ℕ → 
   back : (rest : List ℕ) → read (write x ++ rest) ≡ x
 
 module _ {A : Type 0} (w : ℕ) (write : A → List ℕ) (read : List ℕ → A) where
-  rows-of : (xs : List A) → Each (Row w write read) xs → Row (w * length xs) (joined write) (rows (length xs) w read) xs
-  unfolding joined rows
+  rows-of : (xs : List A) → Each (Row w write read) xs → Row (w * length xs) (concatenated write) (rows (length xs) w read) xs
+  unfolding concatenated rows
   rows-of [] e = record { long = sym (mul-zero w); back = λ rest. refl }
   rows-of (x ∷ xs) e =
       let r = rows-of xs (e .1) in
       record {
-        long = length-append (write x) (joined write xs) ∙ rw (e .0 .long, r .long, mul-suc w (length xs)) (add-comm w (w * length xs));
+        long = length-append (write x) (concatenated write xs) ∙ rw (e .0 .long, r .long, mul-suc w (length xs)) (add-comm w (w * length xs));
         back = λ rest. rw (
-          append-assoc (write x) (joined write xs) rest,
-          e .0 .back (joined write xs ++ rest),
-          drop-at (write x) (joined write xs ++ rest) w (e .0 .long),
+          append-assoc (write x) (concatenated write xs) rest,
+          e .0 .back (concatenated write xs ++ rest),
+          drop-at (write x) (concatenated write xs ++ rest) w (e .0 .long),
           r .back rest,
         );
       }
 
   -- n of them, one after the other, are one row
-  all-rows : (n : ℕ) (xs : List A) → length xs ≡ n → Each (Row w write read) xs → Row (w * n) (joined write) (rows n w read) xs
-  all-rows n xs long e = subst (λ (m : ℕ). Row (w * m) (joined write) (rows m w read) xs) long (rows-of xs e)
+  all-rows : (n : ℕ) (xs : List A) → length xs ≡ n → Each (Row w write read) xs → Row (w * n) (concatenated write) (rows n w read) xs
+  all-rows n xs long e = subst (λ (m : ℕ). Row (w * m) (concatenated write) (rows m w read) xs) long (rows-of xs e)
 
 each : {A : Type 0} (P : A → Type 0) → ((x : A) → P x) → (xs : List A) → Each P xs
 each P h [] = tt
@@ -71,7 +71,7 @@ channel-row : (c : Channel) → ChannelLengths c → Row channelWidth channelByt
 unfolding channelBytes channelIn
 channel-row c l =
     let slots = all-rows messageWidth slotBytes slotIn 8 (c .slots) (l .slots) (each _ slot-row (c .slots)) in
-    let b = joined slotBytes (c .slots) in
+    let b = concatenated slotBytes (c .slots) in
     record {
       long = length-append b (c .len ∷ []) ∙ rw (slots .long);
       back = λ rest. rw (append-assoc b (c .len ∷ []) rest, slots .back (c .len ∷ rest), getD-at b (c .len) rest 0 lengthPlace (slots .long));
@@ -109,7 +109,7 @@ process-row x l =
     let records = all-rows recordWidth recordBytes recordIn 8 (x .pending) (l .pending) (each _ record-row (x .pending)) in
     let entries = all-rows 1 oneByte (byte 0) 32 (x .history .entries) (l .entries) (each _ byte-row (x .history .entries)) in
     let a = variablesBytes (x .variables) in
-    let b = joined recordBytes (x .pending) in
+    let b = concatenated recordBytes (x .pending) in
     let h = x .history .entries in
     record {
       long = length-append (a ++ b) h ∙ rw (length-append a b, records .long, l .entries);
@@ -119,30 +119,30 @@ process-row x l =
         variables .back (b ++ (h ++ rest)),
         records .back (h ++ rest),
         drop-at b (h ++ rest) (8 * recordWidth) (records .long),
-        rw (bytes-joined h) at (entries .back rest),
+        rw (bytes-concatenated h) at (entries .back rest),
       );
     }
 
 -- ---- the system
 module _ (s : System) (l : Lengths s) where
-  processes : Row (processWidth * 8) (joined processBytes) (rows 8 processWidth processIn) (s .processes)
+  processes : Row (processWidth * 8) (concatenated processBytes) (rows 8 processWidth processIn) (s .processes)
   processes = all-rows processWidth processBytes processIn 8 (s .processes) (l .processes) (each-as _ _ process-row (s .processes) (l .each-process))
 
-  channels : Row (channelWidth * 64) (joined channelBytes) (rows 64 channelWidth channelIn) (s .channels)
+  channels : Row (channelWidth * 64) (concatenated channelBytes) (rows 64 channelWidth channelIn) (s .channels)
   channels = all-rows channelWidth channelBytes channelIn 64 (s .channels) (l .channels) (each-as _ _ channel-row (s .channels) (l .each-channel))
 
   pub encoded-length : length (encoded s) ≡ imageWidth
   unfolding encoded
   encoded-length =
-      length-append ((s .n ∷ []) ++ joined processBytes (s .processes)) (joined channelBytes (s .channels)) ∙ rw (processes .long, channels .long)
+      length-append ((s .n ∷ []) ++ concatenated processBytes (s .processes)) (concatenated channelBytes (s .channels)) ∙ rw (processes .long, channels .long)
 
   pub decode-encode : decoded (encoded s) ≡ s
   unfolding encoded decoded
   decode-encode =
       rw (
-        processes .back (joined channelBytes (s .channels)),
-        drop-at (joined processBytes (s .processes)) (joined channelBytes (s .channels)) (processWidth * 8) (processes .long),
-        rw (append-nil (joined channelBytes (s .channels))) at (channels .back []),
+        processes .back (concatenated channelBytes (s .channels)),
+        drop-at (concatenated processBytes (s .processes)) (concatenated channelBytes (s .channels)) (processWidth * 8) (processes .long),
+        rw (append-nil (concatenated channelBytes (s .channels))) at (channels .back []),
       )
 
   pub system-back : systemIn (encoded s) ≡ s

@@ -14,7 +14,7 @@ use Rattle.system.specs.declared.System.{System}
 use Rattle.system.specs.Process.{withEntry, index, pendingSlot}
 use Rattle.system.specs.System.{channelNumber, withChannel}
 use Rattle.system.specs.Fresh.{freshVariables, freshProcess, freshSystem}
-use Rattle.image.specs.Image.{joined, messageBytes, slotBytes, channelBytes, pendingBytes, recordBytes, variablesBytes, processBytes, encoded, messageOf, slotIn, pendingOf, recordIn, variablesOf, variablesIn, noSystem, systemIn}
+use Rattle.image.specs.Image.{concatenated, messageBytes, slotBytes, channelBytes, pendingBytes, recordBytes, variablesBytes, processBytes, encoded, messageOf, slotIn, pendingOf, recordIn, variablesOf, variablesIn, noSystem, systemIn}
 
 -- n bytes of an image, from a place on
 abbrev bytesAt : ℕ → ℕ → System → List ℕ
@@ -23,17 +23,17 @@ bytesAt place n s = take n (drop place (encoded s))
 -- n is 2. Process 1 has not crashed; its view is {1, 2}, Next 2, PropOut 1, nothing is proposed or acknowledged, and the first of
 -- its records is none
 pub fresh-begins : bytesAt 0 10 (freshSystem 2) ≡ 2 ∷ 0 ∷ 3 ∷ 2 ∷ 1 ∷ 0 ∷ 0 ∷ 0 ∷ 0 ∷ 0 ∷ []
-unfolding encoded joined processBytes variablesBytes recordBytes pendingBytes freshSystem freshProcess freshVariables everyone pick
+unfolding encoded concatenated processBytes variablesBytes recordBytes pendingBytes freshSystem freshProcess freshVariables everyone pick
 fresh-begins = refl
 
 -- its history is {1, 2} at index 1, and empty from there on; process 2 follows
 pub fresh-history : bytesAt 31 34 (freshSystem 2) ≡ (3 ∷ []) ++ replicate 31 0 ++ (0 ∷ 3 ∷ [])
-unfolding encoded joined processBytes variablesBytes recordBytes pendingBytes freshSystem freshProcess freshVariables everyone withEntry put pick
+unfolding encoded concatenated processBytes variablesBytes recordBytes pendingBytes freshSystem freshProcess freshVariables everyone withEntry put pick
 fresh-history = refl
 
 -- the channel from process 1 to process 2 is the second: Commit {1} 2 is its first message, and its length is 1
 pub message-sent : bytesAt 522 25 (withChannel (freshSystem 2) 1 2 (pushed emptyChannel (Commit 1 (index 2)))) ≡ (3 ∷ 1 ∷ 2 ∷ []) ++ replicate 21 0 ++ (1 ∷ [])
-unfolding encoded joined processBytes variablesBytes recordBytes pendingBytes channelBytes slotBytes messageBytes freshSystem freshProcess freshVariables everyone withEntry put withChannel channelNumber pushed emptyChannel pick
+unfolding encoded concatenated processBytes variablesBytes recordBytes pendingBytes channelBytes slotBytes messageBytes freshSystem freshProcess freshVariables everyone withEntry put withChannel channelNumber pushed emptyChannel pick
 message-sent = refl
 
 -- ---- bytes that stand for nothing
@@ -54,5 +54,5 @@ wrong-flag = refl
 
 -- a byte too few
 pub wrong-length : systemIn (take 2096 (encoded (freshSystem 2))) ≡ noSystem
-unfolding systemIn encoded joined processBytes variablesBytes recordBytes pendingBytes channelBytes slotBytes messageBytes freshSystem freshProcess freshVariables everyone withEntry put emptyChannel pick
+unfolding systemIn encoded concatenated processBytes variablesBytes recordBytes pendingBytes channelBytes slotBytes messageBytes freshSystem freshProcess freshVariables everyone withEntry put emptyChannel pick
 wrong-length = refl

@@ -17,7 +17,7 @@ use Rattle.channel.specs.Channel.{slot, emptyChannel}
 use Rattle.system.specs.declared.Pending.{Pending}
 use Rattle.system.specs.Process.{pendingSlot}
 use Rattle.image.specs.declared.Three.{Three}
-use Rattle.image.specs.Image.{channelWidth, joined, rows, byte, messageOf, slotIn, channelIn, pendingOf, recordIn}
+use Rattle.image.specs.Image.{channelWidth, concatenated, rows, byte, messageOf, slotIn, channelIn, pendingOf, recordIn}
 use Rattle.codec.specs.Put.{Put}
 
 pub all-of : {A : Type 0} (l m : List A) (n : ℕ) → length l ≡ n → take n l ≡ m → l ≡ m
@@ -101,25 +101,25 @@ three-put b n x y z h =
     let two = and-then (n + 2) (one-put b n x (omega arith)) (one-put c (n + 1) y (omega (arith, length-set b n x))) refl (omega arith) in
     and-then (n + 3) two (one-put d (n + 2) z (omega (arith, length-set b n x, length-set c (n + 1) y))) refl (omega arith)
 
-joined-append : {A : Type 0} (f : A → List ℕ) (xs ys : List A) → joined f (xs ++ ys) ≡ joined f xs ++ joined f ys
-unfolding joined
-joined-append f [] ys = refl
-joined-append f (x ∷ xs) ys = rw (joined-append f xs ys, append-assoc)
+concatenated-append : {A : Type 0} (f : A → List ℕ) (xs ys : List A) → concatenated f (xs ++ ys) ≡ concatenated f xs ++ concatenated f ys
+unfolding concatenated
+concatenated-append f [] ys = refl
+concatenated-append f (x ∷ xs) ys = rw (concatenated-append f xs ys, append-assoc)
 
-joined-more : {A : Type 0} (f : A → List ℕ) (l : List A) (i : ℕ) (d : A) → i < length l → joined f (take (i + 1) l) ≡ joined f (take i l) ++ f (getD l i d)
-unfolding joined
-joined-more f l i d h = rw (add-one i, take-suc l i d h, joined-append f (take i l) (getD l i d ∷ []), append-nil (f (getD l i d)))
+concatenated-more : {A : Type 0} (f : A → List ℕ) (l : List A) (i : ℕ) (d : A) → i < length l → concatenated f (take (i + 1) l) ≡ concatenated f (take i l) ++ f (getD l i d)
+unfolding concatenated
+concatenated-more f l i d h = rw (add-one i, take-suc l i d h, concatenated-append f (take i l) (getD l i d ∷ []), append-nil (f (getD l i d)))
 
 -- the first i of n elements of l are written, in rows of w bytes that begin at a place; a is what the bytes were before
 pub record Written {A : Type 0} (n w at : ℕ) (f : A → List ℕ) (l : List A) (a b : List ℕ) (i : ℕ) : Type 0 where
   pub within : i ≤ n
   pub long : length l ≡ n
   pub room : length b ≡ length a
-  pub so-far : Put a at (joined f (take i l)) b (at + w * i)
+  pub so-far : Put a at (concatenated f (take i l)) b (at + w * i)
 
 module _ {A : Type 0} {n w at : ℕ} {f : A → List ℕ} {l : List A} {a : List ℕ} where
   pub none-written : length l ≡ n → Written n w at f l a a 0
-  unfolding joined
+  unfolding concatenated
   none-written long =
       record {
         within = omega arith;
@@ -136,10 +136,10 @@ module _ {A : Type 0} {n w at : ℕ} {f : A → List ℕ} {l : List A} {a : List
         within = omega arith;
         long = r .long;
         room = same ∙ r .room;
-        so-far = rw (joined-more f l i d (omega arith)) (and-then (at + w * (i + 1)) (r .so-far) this here (omega arith));
+        so-far = rw (concatenated-more f l i d (omega arith)) (and-then (at + w * (i + 1)) (r .so-far) this here (omega arith));
       }
 
-  pub all-written : {b : List ℕ} {i : ℕ} → Written n w at f l a b i → n ≤ i → Put a at (joined f l) b (at + w * n)
+  pub all-written : {b : List ℕ} {i : ℕ} → Written n w at f l a b i → n ≤ i → Put a at (concatenated f l) b (at + w * n)
   all-written {i = i} r h =
       let end : i ≡ n = omega arith in
       rw (end, take-all n l (le-of-eq (r .long))) at (r .so-far)
@@ -148,7 +148,7 @@ module _ {A : Type 0} {n w at : ℕ} {f : A → List ℕ} {l : List A} {a : List
 abbrev pub oneByte : ℕ → List ℕ
 oneByte x = x ∷ []
 
-pub bytes-joined : (l : List ℕ) → joined oneByte l ≡ l
-unfolding joined
-bytes-joined [] = refl
-bytes-joined (x ∷ l) = ap (λ (t : List ℕ). x ∷ t) (bytes-joined l)
+pub bytes-concatenated : (l : List ℕ) → concatenated oneByte l ≡ l
+unfolding concatenated
+bytes-concatenated [] = refl
+bytes-concatenated (x ∷ l) = ap (λ (t : List ℕ). x ∷ t) (bytes-concatenated l)

@@ -57,9 +57,9 @@ imageWidth = channelsPlace + 64 * channelWidth
 
 -- ---- from a system to its image
 -- the bytes of each part, one part after the other
-unfoldable pub joined : {A : Type 0} → (A → List ℕ) → List A → List ℕ
-joined f [] = []
-joined f (x ∷ xs) = f x ++ joined f xs
+unfoldable pub concatenated : {A : Type 0} → (A → List ℕ) → List A → List ℕ
+concatenated f [] = []
+concatenated f (x ∷ xs) = f x ++ concatenated f xs
 
 unfoldable pub messageBytes : Message → List ℕ
 messageBytes (Propose v i) = 0 ∷ v ∷ i .0 ∷ []
@@ -71,7 +71,7 @@ unfoldable pub slotBytes : Slot → List ℕ
 slotBytes s = messageBytes (s .message)
 
 unfoldable pub channelBytes : Channel → List ℕ
-channelBytes c = joined slotBytes (c .slots) ++ (c .len ∷ [])
+channelBytes c = concatenated slotBytes (c .slots) ++ (c .len ∷ [])
 
 unfoldable pub pendingBytes : Pending → List ℕ
 pendingBytes Nothing = 0 ∷ 0 ∷ 0 ∷ []
@@ -84,10 +84,10 @@ unfoldable pub variablesBytes : Variables → List ℕ
 variablesBytes x = pick (x .crashed) 1 0 ∷ x .view ∷ x .next .0 ∷ x .propout .0 ∷ x .proposal ∷ x .acks ∷ []
 
 unfoldable pub processBytes : Process → List ℕ
-processBytes x = variablesBytes (x .variables) ++ joined recordBytes (x .pending) ++ x .history .entries
+processBytes x = variablesBytes (x .variables) ++ concatenated recordBytes (x .pending) ++ x .history .entries
 
 unfoldable pub encoded : System → List ℕ
-encoded s = (s .n ∷ []) ++ joined processBytes (s .processes) ++ joined channelBytes (s .channels)
+encoded s = (s .n ∷ []) ++ concatenated processBytes (s .processes) ++ concatenated channelBytes (s .channels)
 
 -- ---- from an image to the system: every list of so many bytes is some system
 -- n rows, one after the other, each of w bytes

@@ -15,15 +15,15 @@ use Rattle.input.specs.Received.{Zeros, ReadAt, Received}
 pub counts : (n : ℕ) (l : List ℕ) → n ≤ length l → Counts n l
 counts n l h = (h, sym (length-take-le n l h))
 
-counted : (n : ℕ) (l : List ℕ) → n ≡ length (take n l) → Counts n l
-counted n l e = (omega (arith, length-take n l, e), e)
+taken-counts : (n : ℕ) (l : List ℕ) → n ≡ length (take n l) → Counts n l
+taken-counts n l e = (omega (arith, length-take n l, e), e)
 
 -- where a text stands at the start, its length counts, and so many bytes are the text
 pub text-first : (n : ℕ) (l text rest : List ℕ) → n ≡ length text → l ≡ text ++ rest → take n l ≡ text
 text-first n l text rest long is = rw (long, is) (take-append-seam text rest)
 
 pub first-bytes : (n : ℕ) (l text rest : List ℕ) → n ≡ length text → l ≡ text ++ rest → Counts n l
-first-bytes n l text rest long is = counted n l (long ∙ sym (ap length (text-first n l text rest long is)))
+first-bytes n l text rest long is = taken-counts n l (long ∙ sym (ap length (text-first n l text rest long is)))
 
 -- ---- a buffer newly made
 pub zeros : (n : ℕ) → Zeros n (replicate n 0)
@@ -47,13 +47,13 @@ received-none d = record { counts = counts 0 d (omega arith); long = refl; room 
 pub received-more : {done count : ℕ} {failed : Bool} {before middle after chunk : List ℕ}
     → Received false done before middle → ReadAt failed count done middle after chunk → Received false (done + count) before after
 received-more {done} {count} {failed} {before} {middle} {after} {chunk} so r =
-    let long : length after ≡ length middle = ap length (r .put) ∙ length-paste middle done chunk count (r .fits) (r .came) in
+    let long : length after ≡ length middle = ap length (r .stored) ∙ length-paste middle done chunk count (r .fits) (r .came) in
     record {
       counts = counts (done + count) after (omega (arith, long, r .fits));
       long = long ∙ so .long;
       room = λ e. absurd (let z : _≡_ {A = ℕ} 0 1 = cc in omega arith);
       kept =
-          ap (drop (done + count)) (r .put)
+          ap (drop (done + count)) (r .stored)
           ∙ drop-paste middle done chunk count (omega (arith, so .counts .0, so .long)) (r .came)
           ∙ sym (drop-drop count done middle)
           ∙ ap (drop count) (so .kept)

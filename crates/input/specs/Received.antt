@@ -18,7 +18,7 @@ pub record ReadAt (failed : Bool) (count at : ℕ) (before after chunk : List �
   pub came : count ≤ length chunk
   pub fits : at + count ≤ length before
   pub none : failed ≡ true → count ≡ 0
-  pub put : after ≡ paste before at chunk count
+  pub stored : after ≡ paste before at chunk count
 
 -- the input's bytes are the buffer's first, as many as the count says; a read that fails leaves room, so that a full buffer is none;
 -- the bytes after them are as they were

@@ -5,7 +5,7 @@ use Rattle.view.specs.Logic.{pick}
 use Rattle.view.specs.View.{with}
 use Rattle.print.specs.Text.{bytes}
 use Rattle.sheet.specs.Lines.{inFirst, withByte, linesOf}
-use Rattle.sheet.specs.Grammar.{piece, passed, ended, followed, readings, some, begins, greatest, column, firstOf, read}
+use Rattle.sheet.specs.Grammar.{piece, passed, ended, followed, readings, some, begins, greatest, column, firstReading, read}
 use Rattle.sheet.specs.Parse.{opened, parsed}
 use Rattle.sheet.specs.Examples.{splits, splitOf, expectedLines, firstSayings, saidFirst, sayings, said, expectedSaying}
 
@@ -14,9 +14,9 @@ unfolding pick bytes inFirst withByte linesOf splitOf expectedLines
 split-as-expected = refl
 
 pub said-first-as-expected : map saidFirst firstSayings ≡ map expectedSaying firstSayings
-unfolding pick with bytes flatMap piece passed ended followed readings some begins greatest column firstOf read opened saidFirst
+unfolding pick with bytes flatMap piece passed ended followed readings some begins greatest column firstReading read opened saidFirst
 said-first-as-expected = refl
 
 pub said-as-expected : map said sayings ≡ map expectedSaying sayings
-unfolding pick with bytes flatMap piece passed ended followed readings some begins greatest column firstOf read parsed said
+unfolding pick with bytes flatMap piece passed ended followed readings some begins greatest column firstReading read parsed said
 said-as-expected = refl

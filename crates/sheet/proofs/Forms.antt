@@ -13,7 +13,7 @@ use lib.Seq.{take-all}
 use Rattle.view.specs.Logic.{pick}
 use Rattle.view.specs.View.{with}
 use Rattle.view.proofs.Laws.{true-is-not-false, or-left, or-right, by-pick, by-test}
-use Rattle.sheet.specs.Grammar.{Piece, byte, size, digit, view, more, Form, form, rises, valueOf, when, passed, ended, onward, endsAs, followed, readings, some, allowed, begins, greatest, column, firstOf, read}
+use Rattle.sheet.specs.Grammar.{Piece, byte, size, digit, view, more, Form, form, rises, valueOf, when, passed, ended, onward, endsAs, followed, readings, some, allowed, begins, greatest, column, firstReading, read}
 
 -- ---- two lists of forms, and two texts, one after the other
 flat-append : {X Y : Type 0} (f : X → List Y) (xs ys : List X) → flatMap f (xs ++ ys) ≡ flatMap f xs ++ flatMap f ys
@@ -186,7 +186,7 @@ column-is xs l = ap (λ (k : ℕ). k + 1) (longest xs l)
 
 -- ---- a line read byte by byte: k bytes have been followed to these forms, and l is left
 unfoldable pub readFrom : {A : Type 0} → (ℕ → A) → List (Form A) → ℕ → List ℕ → A
-readFrom bad xs k l = firstOf (readings xs l) (bad (k + reached xs l + 1))
+readFrom bad xs k l = firstReading (readings xs l) (bad (k + reached xs l + 1))
 
 module _ {A : Type 0} (bad : ℕ → A) (xs : List (Form A)) where
   pub read-from : (l : List ℕ) → read bad xs l ≡ readFrom bad xs 0 l
@@ -198,22 +198,22 @@ module _ {A : Type 0} (bad : ℕ → A) (xs : List (Form A)) where
   goes-on k b bs ys is e = let s : k + suc (reached ys bs) + 1 ≡ suc k + reached ys bs + 1 = omega arith in rw (is, e, s)
 
   pub is-stuck : (k b : ℕ) (bs : List ℕ) → flatMap (onward b) xs ≡ [] → readFrom bad xs k (b ∷ bs) ≡ bad (k + 1)
-  unfolding readFrom readings reached followed pick some flatMap firstOf
+  unfolding readFrom readings reached followed pick some flatMap firstReading
   is-stuck k b bs is = let z : k + 0 + 1 ≡ k + 1 = omega arith in rw (is, followed-none bs) (ap bad z)
 
   pub breaks-off : (k : ℕ) → flatMap endsAs xs ≡ [] → readFrom bad xs k [] ≡ bad (k + 1)
-  unfolding readFrom readings reached followed firstOf
+  unfolding readFrom readings reached followed firstReading
   breaks-off k is = let z : k + 0 + 1 ≡ k + 1 = omega arith in rw is (ap bad z)
 
   pub ends : (k : ℕ) (a : A) (rest : List A) → flatMap endsAs xs ≡ a ∷ rest → readFrom bad xs k [] ≡ a
-  unfolding readFrom readings reached followed firstOf
+  unfolding readFrom readings reached followed firstReading
   ends k a rest is = rw is
 
   -- what the next byte leads to decides
   pub same-next : (ys : List (Form A)) (k b : ℕ) (bs : List ℕ) → flatMap (onward b) xs ≡ flatMap (onward b) ys → readFrom bad xs k (b ∷ bs) ≡ readFrom bad ys k (b ∷ bs)
   unfolding readFrom readings reached followed
-  same-next ys k b bs is = ap (λ (zs : List (Form A)). firstOf (flatMap endsAs (followed zs bs)) (bad (k + pick (some zs) (suc (reached zs bs)) 0 + 1))) is
+  same-next ys k b bs is = ap (λ (zs : List (Form A)). firstReading (flatMap endsAs (followed zs bs)) (bad (k + pick (some zs) (suc (reached zs bs)) 0 + 1))) is
 
   pub same-end : (ys : List (Form A)) (k : ℕ) → flatMap endsAs xs ≡ flatMap endsAs ys → readFrom bad xs k [] ≡ readFrom bad ys k []
   unfolding readFrom readings reached followed
-  same-end ys k is = ap (λ (zs : List A). firstOf zs (bad (k + 0 + 1))) is
+  same-end ys k is = ap (λ (zs : List A). firstReading zs (bad (k + 0 + 1))) is

@@ -17,7 +17,7 @@ use Rattle.sheet.specs.declared.parse.Opening.{Opening}
 use Rattle.sheet.specs.declared.parse.Opening.the-variants.{Bad as BadFirst, Fresh}
 use Rattle.sheet.specs.declared.parse.Line.{Line}
 use Rattle.sheet.specs.declared.parse.Line.the-variants.{Bad, Step}
-use Rattle.sheet.specs.Grammar.{Piece, byte, size, digit, view, more, Form, form, isDigit, rises, valueOf, when, passed, ended, onward, endsAs, followed, readings, some, allowed, column, firstOf, read}
+use Rattle.sheet.specs.Grammar.{Piece, byte, size, digit, view, more, Form, form, isDigit, rises, valueOf, when, passed, ended, onward, endsAs, followed, readings, some, allowed, column, firstReading, read}
 use Rattle.sheet.specs.Parse.{firstForms, laterForms, opened, parsed, stands, fitting, columnFrom, digitAt}
 use Rattle.sheet.proofs.Forms.{append-none, in-first, in-second, byte-read, view-ends}
 use Rattle.sheet.proofs.Parsing.{answered}
@@ -119,9 +119,9 @@ module _ {A : Type 0} (P : A → Type 0) where
   says-followed (b ∷ bs) xs h = says-followed bs (flatMap (onward b) xs) (says-onward b bs xs h)
 
   -- the first thing said, if any is
-  says-ended : (says : (ℕ → ℕ) → A) (fs : List ℕ) (ps : List Piece) (rest : List A) (a : A) → Says [] (form says fs ps) → (some rest ≡ true → P (firstOf rest a))
-      → some (ended says fs ps ++ rest) ≡ true → P (firstOf (ended says fs ps ++ rest) a)
-  unfolding ended firstOf
+  says-ended : (says : (ℕ → ℕ) → A) (fs : List ℕ) (ps : List Piece) (rest : List A) (a : A) → Says [] (form says fs ps) → (some rest ≡ true → P (firstReading rest a))
+      → some (ended says fs ps ++ rest) ≡ true → P (firstReading (ended says fs ps ++ rest) a)
+  unfolding ended firstReading
   says-ended says fs [] rest a p h e = rw (append-none fs) at (p [] end)
   says-ended says fs (byte c ∷ ps) rest a p h e = h e
   says-ended says fs (size ∷ ps) rest a p h e = h e
@@ -130,7 +130,7 @@ module _ {A : Type 0} (P : A → Type 0) where
   says-ended says fs (more last v ∷ ps) rest a p h e =
       says-ended says (fs ++ (v ∷ [])) ps rest a (field-more says fs v (more last v ∷ ps) ps [] [] (λ vs w. no-more w) p) h e
 
-  says-first : (xs : List (Form A)) (a : A) → All (Says []) xs → some (flatMap endsAs xs) ≡ true → P (firstOf (flatMap endsAs xs) a)
+  says-first : (xs : List (Form A)) (a : A) → All (Says []) xs → some (flatMap endsAs xs) ≡ true → P (firstReading (flatMap endsAs xs) a)
   unfolding flatMap some
   says-first [] a none e = true-is-not-false (sym e)
   says-first (x ∷ xs) a (also p ps) e = says-ended (x .says) (x .fields) (x .left) (flatMap endsAs xs) a p (says-first xs a ps) e
@@ -188,8 +188,8 @@ written-allowed {A} {x} vs l (here {xs}) w = in-first (x ∷ []) xs l (written-r
 written-allowed vs l (later {y} {xs} i) w = in-second (y ∷ []) xs l (written-allowed vs l i w)
 
 -- ---- any other is bad, at its column
-none-said : {A : Type 0} (rs : List A) (a : A) → some rs ≡ false → firstOf rs a ≡ a
-unfolding some firstOf
+none-said : {A : Type 0} (rs : List A) (a : A) → some rs ≡ false → firstReading rs a ≡ a
+unfolding some firstReading
 none-said [] a e = refl
 none-said (r ∷ rs) a e = true-is-not-false e
 

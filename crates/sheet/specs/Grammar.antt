@@ -118,10 +118,10 @@ greatest (suc k) test = pick (test (suc k)) (suc k) (greatest k test)
 unfoldable pub column : {A : Type 0} → List (Form A) → List ℕ → ℕ
 column xs l = greatest (length l) (λ k. begins xs (take k l)) + 1
 
-unfoldable pub firstOf : {A : Type 0} → List A → A → A
-firstOf [] a = a
-firstOf (b ∷ rest) a = b
+unfoldable pub firstReading : {A : Type 0} → List A → A → A
+firstReading [] a = a
+firstReading (b ∷ rest) a = b
 
 -- what a line says that is allowed, and of any other that it is bad at its column
 unfoldable pub read : {A : Type 0} → (ℕ → A) → List (Form A) → List ℕ → A
-read bad xs l = firstOf (readings xs l) (bad (column xs l))
+read bad xs l = firstReading (readings xs l) (bad (column xs l))

@@ -39,18 +39,18 @@ having crashed view next propout proposal acks x =
     (record { crashed = crashed; view = view; next = index next; propout = index propout; proposal = proposal; acks = acks })
 
 -- each with one field that is not the fresh one
-abbrev pub withView : ℕ → Process → Process
-withView v = having false v 2 1 0 0
+abbrev pub ofView : ℕ → Process → Process
+ofView v = having false v 2 1 0 0
 
-abbrev pub withNext : ℕ → Process → Process
-withNext i = having false 3 i 1 0 0
+abbrev pub ofNext : ℕ → Process → Process
+ofNext i = having false 3 i 1 0 0
 
 -- PropOut and the last proposed view
 abbrev pub proposing : ℕ → ℕ → Process → Process
 proposing i v = having false 3 2 i v 0
 
-abbrev pub withAcks : ℕ → Process → Process
-withAcks v = having false 3 2 1 0 v
+abbrev pub ofAcks : ℕ → Process → Process
+ofAcks v = having false 3 2 1 0 v
 
 abbrev pub crashed : Process → Process
 crashed = having true 3 2 1 0 0
@@ -97,9 +97,9 @@ examples =
     ∷ sound (freshSystem 8)
     ∷ unsound (sized 9)
     -- "Next (2 to 33)"
-    ∷ unsound (altered 1 (withNext 1))
-    ∷ sound (altered 1 (withNext 33))
-    ∷ unsound (altered 2 (withNext 34))
+    ∷ unsound (altered 1 (ofNext 1))
+    ∷ sound (altered 1 (ofNext 33))
+    ∷ unsound (altered 2 (ofNext 34))
     -- "PropOut (1 to 32)"
     ∷ unsound (altered 1 (proposing 0 3))
     ∷ sound (altered 1 (proposing 32 3))
@@ -108,17 +108,17 @@ examples =
     ∷ sound (sending 8 (Acc (index 2)))
     ∷ unsound (sending 9 (Acc (index 2)))
     -- "every view names only units 1 to n": the local view, an entry, the last proposed view, the set of those that acknowledged
-    ∷ unsound (altered 1 (withView 7))
+    ∷ unsound (altered 1 (ofView 7))
     ∷ sound (altered 1 (holding 32 2))
     ∷ unsound (altered 1 (holding 32 4))
     ∷ unsound (altered 1 (proposing 2 5))
-    ∷ sound (altered 1 (withAcks 3))
-    ∷ unsound (altered 1 (withAcks 4))
+    ∷ sound (altered 1 (ofAcks 3))
+    ∷ unsound (altered 1 (ofAcks 4))
     -- "position 1 holds a non-empty view at each unit"
     ∷ unsound (altered 2 (holding 1 0))
     -- "each local view contains its own unit"
-    ∷ sound (altered 2 (withView 2))
-    ∷ unsound (altered 2 (withView 1))
+    ∷ sound (altered 2 (ofView 2))
+    ∷ unsound (altered 2 (ofView 1))
     -- "the last proposed view is empty if PropOut is 1 and otherwise contains its own unit"
     ∷ unsound (altered 2 (proposing 1 2))
     ∷ sound (altered 2 (proposing 2 2))
@@ -165,7 +165,7 @@ examples =
     ∷ unsound (sending 1 (Retry (index 2) (index 2)))
     ∷ unsound (sending 1 (Retry (index 2) (index 34)))
     -- what lies past n is no part of the table: a process, a record from it, a channel to it and one from it
-    ∷ sound (altered 3 (withNext 0))
+    ∷ sound (altered 3 (ofNext 0))
     ∷ sound (altered 1 (λ x. withPending x 3 (Proposal 255 (index 0))))
     ∷ sound (withChannel two 1 3 (filled (Acc (index 0)) 9))
     ∷ sound (withChannel two 3 1 (filled (Acc (index 0)) 9))

@@ -3,7 +3,7 @@ use Prim.Native.Nat.{_+_, _-_}
 use native.Mathlib.Omega.{arith}
 use lib.ListN.{length-set}
 use Rattle.view.proofs.Laws.{long}
-use Rattle.codec.proofs.Laws.{Written, none-written, write-more, all-written, one-put, oneByte, bytes-joined}
+use Rattle.codec.proofs.Laws.{Written, none-written, write-more, all-written, one-put, oneByte, bytes-concatenated}
 use borrow.Author.Needs.{needs}
 use Rattle.codec.proofs.put_history.Statement.{statement}
 use Rattle.codec.proofs.put_history.Tie as tie
@@ -23,7 +23,7 @@ loop-again c =
     write-more 0 (l .loop .inv) (one-put (l .loop .image) (l .before .args .at + l .loop .i) _ (search needs)) (omega arith) (simp length-set) (omega arith) (omega arith)
 
 returns : tie.Need-returns Inv-loop μ-loop
-returns c = rw bytes-joined at (all-written (c .before .loop .inv) (omega arith))
+returns c = rw bytes-concatenated at (all-written (c .before .loop .inv) (omega arith))
 
 pub put-history-spec : {M : Type 1} → statement M
 put-history-spec =

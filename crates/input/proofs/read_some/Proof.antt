@@ -14,7 +14,7 @@ slice-aggregate-read c = sym (length-take-le _ _ (search needs))
 returns : tie.Need-returns
 returns c =
     let a = c .before .before .before .before .before .before .before .before .args in
-    record { came = search needs; fits = search needs; none = λ e. refl; put = paste-zero (a .buf .now) (a .at) [] }
+    record { came = search needs; fits = search needs; none = λ e. refl; stored = paste-zero (a .buf .now) (a .at) [] }
 
 returns-2 : tie.Need-returns-2
 returns-2 c =
@@ -22,7 +22,7 @@ returns-2 c =
       came = search needs;
       fits = search needs;
       none = λ e. absurd (let z : _≡_ {A = ℕ} 0 1 = cc in omega arith);
-      put = c .before .before .copy .ensures;
+      stored = c .before .before .copy .ensures;
     }
 
 pub read-some-spec : {M : Type 1} → statement M

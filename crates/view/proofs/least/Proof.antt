@@ -19,9 +19,9 @@ abbrev process : ℕ → ProcessId
 process k = record { 0 = k }
 
 -- the rule of the views that are not empty, over all 256 of them
-counted : (v : ℕ) → v < 256 → (v ≡ 0 → ⊥) → trailingZeros 8 v + 1 ≡ firstFrom 8 1 v
+zeros-counted : (v : ℕ) → v < 256 → (v ≡ 0 → ⊥) → trailingZeros 8 v + 1 ≡ firstFrom 8 1 v
 unfolding firstFrom has pick trailingZeros
-counted v h some =
+zeros-counted v h some =
     ⊎-elim
     (λ none. absurd (some (eqb-true v 0 none)))
     (λ e. eqb-true (trailingZeros 8 v + 1) (firstFrom 8 1 v) e)
@@ -39,7 +39,7 @@ returns c = let none : c .before .args .view ≡ 0 = c .if1 .taken in rw none
 
 returns-2 : tie.Need-returns-2
 unfolding leastOf
-returns-2 c = ap process (counted _ (c .before .fits .view .fits) (c .if1 .left))
+returns-2 c = ap process (zeros-counted _ (c .before .fits .view .fits) (c .if1 .left))
 
 pub least-spec : {M : Type 1} → statement M
 least-spec = tie.close (tie.spec add-t5 cast-t6 returns returns-2)
