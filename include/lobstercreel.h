@@ -6,14 +6,14 @@
  * handed over: what is no image, or no sound system, is refused with 1. What lies past n or past a line's length means nothing; it may
  * hold anything, and a step that is done may change it.
  *
- * STACK (measured on x86-64 by tests/stack): a step, a list of steps and lobstercreel_fresh take less than 300 bytes, lobstercreel_run
- * less than 3 KB.
+ * STACK (measured on x86-64 by tests/stack): a step, a list of steps and lobstercreel_fresh take less than 300 bytes, lobstercreel_settle
+ * less than 3 KB, lobstercreel_run less than 5 KB.
  *
  * Build the library with `rt staticlib capi` and link target/staticlib/libcapi.a (x86-64 only). docs/IMAGE.md has the layout as a
  * table, and where each sentence here is proved.
  *
- * A pointer must not be null, must point to as many bytes as the length after it says, and two buffers of one call must not overlap:
- * these three things no proof can ask of C.
+ * A pointer must not be null, must point to as many bytes as the length after it says (`told`, which has none after it, to two numbers
+ * of 16 bits), and two buffers of one call must not overlap: these three things no proof can ask of C.
  */
 #ifndef LOBSTERCREEL_H
 #define LOBSTERCREEL_H
@@ -99,6 +99,20 @@ enum { LOBSTERCREEL_REPORT, LOBSTERCREEL_RECEIVE, LOBSTERCREEL_RESPOND, LOBSTERC
  * once. The number of each goes into `numbers`: as many steps are done as it has places, and what lies past them stays. Answers how
  * many. A kind that there is not, and bytes that break off inside a step, are refused with 8 in their turn. */
 size_t lobstercreel_steps(uint8_t *image, size_t length, const uint8_t *list, size_t list_length, uint8_t *numbers, size_t places);
+
+/* How a settling run ended. */
+enum {
+    LOBSTERCREEL_REST = 0,  /* at rest: no message waits, and no answer could be given */
+    LOBSTERCREEL_HELD = 1,  /* held up: everything else */
+    LOBSTERCREEL_BUDGET = 2 /* LOBSTERCREEL_MOST_STEPS were done, and a further take or answer would be */
+};
+#define LOBSTERCREEL_MOST_STEPS 7936 /* a settling run stops after so many steps done at the latest */
+
+/* The settling run, in rounds: one take is tried on every line, by rising receiver and then sender, then one answer for every unit and
+ * addressee, rising in that order; refused ones are passed over, until a whole round does nothing. 0; or 1 where the system is not sound
+ * or the length is not that of an image. told[0] becomes the steps done, told[1] how it ended; with 1 they are 0 and LOBSTERCREEL_HELD.
+ * Where no step is done every byte of the image stays. */
+uint8_t lobstercreel_settle(uint8_t *image, size_t length, uint16_t *told);
 
 /* Runs a whole sheet and writes what the bench program prints for it, as far as `out` has room; what lies past it in `out` stays.
  * Answers how many bytes were written. Less than `room` is the whole output; as many as `room` may be cut off. A buffer of

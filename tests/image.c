@@ -102,6 +102,23 @@ static void refused(uint8_t answer, uint8_t number, const char *what) {
     expect(answer == number && unchanged(), "%s: answer %d and not %d, or another image", what, answer, number);
 }
 
+/* The two numbers that a settling run tells lie between others that must stay. */
+static uint16_t told_memory[4];
+static uint16_t *const told = told_memory + 1;
+static uint8_t settle(uint8_t *of, size_t given) {
+    told_memory[0] = told_memory[3] = 0xa5a5;
+    told[0] = told[1] = 0x7777;
+    uint8_t answer = lobstercreel_settle(of, given, told);
+    expect(told_memory[0] == 0xa5a5 && told_memory[3] == 0xa5a5, "the numbers around those that are told");
+    expect(told[0] <= LOBSTERCREEL_MOST_STEPS && told[1] <= LOBSTERCREEL_BUDGET, "%d steps, ending %d", told[0], told[1]);
+    return answer;
+}
+static int settled(uint8_t answer, int steps, int ending) { return answer == LOBSTERCREEL_DONE && told[0] == steps && told[1] == ending; }
+static void refused_settling(uint8_t *of, size_t given, const char *what) {
+    refused(settle(of, given), LOBSTERCREEL_UNSOUND, what);
+    expect(told[0] == 0 && told[1] == LOBSTERCREEL_HELD, "%s: %d steps, ending %d", what, told[0], told[1]);
+}
+
 static void start(int n) {
     memset(image, 0, length);
     expect(lobstercreel_fresh(image, length, (uint8_t)n) == LOBSTERCREEL_DONE, "%d fresh units", n);
@@ -145,6 +162,7 @@ static void lengths(void) {
         refused(lobstercreel_receive(image, other, 1, 1), LOBSTERCREEL_UNSOUND, "receive, another length");
         refused(lobstercreel_respond(image, other, 1, 1), LOBSTERCREEL_UNSOUND, "respond, another length");
         refused(lobstercreel_crash(image, other, 1), LOBSTERCREEL_UNSOUND, "crash, another length");
+        refused_settling(image, other, "settle, another length");
     }
 }
 
@@ -169,6 +187,7 @@ static void fresh(void) {
         expect(image[LOBSTERCREEL_N] == 0, "%d units leave a system of none", n);
         prepare();
         refused(lobstercreel_report(image, length, 1, 1), LOBSTERCREEL_UNSOUND, "a system of none");
+        refused_settling(image, length, "settle, a system of none");
     }
 }
 
@@ -443,7 +462,85 @@ static void cuts(void) {
     done(lobstercreel_respond_cut(image, length, 2, 1, 0), "an answer cut", 2, 1, 0);
 }
 
-/* The longest output: 59,996 empty lines after `u 8`. No line of a sheet prints more bytes than 10, and it has 60,000 at most. */
+/* The rounds of a settling run by calls of their own: how many steps are done. */
+static int rounds(uint8_t *of) {
+    int n = of[LOBSTERCREEL_N], steps = 0, last;
+    do {
+        last = steps;
+        for (int p = 1; p <= n; p++)
+            for (int q = 1; q <= n; q++) steps += lobstercreel_receive(of, length, (uint8_t)q, (uint8_t)p) == LOBSTERCREEL_DONE;
+        for (int p = 1; p <= n; p++)
+            for (int q = 1; q <= n; q++) steps += lobstercreel_respond(of, length, (uint8_t)p, (uint8_t)q) == LOBSTERCREEL_DONE;
+    } while (steps != last);
+    return steps;
+}
+
+/* Does a message wait, or could an answer be given? */
+static int restless(uint8_t *of) {
+    int n = of[LOBSTERCREEL_N];
+    for (int p = 1; p <= n; p++)
+        for (int q = 1; q <= n; q++) {
+            const uint8_t *kept = record(of, p, q);
+            if (*line_length(of, q, p) > 0) return 1;
+            if (!*field(of, p, LOBSTERCREEL_CRASHED) && kept[0] == LOBSTERCREEL_PROPOSED && kept[1] == *field(of, p, LOBSTERCREEL_VIEW)) return 1;
+        }
+    return 0;
+}
+
+/* Settles the image, which is sound: the same steps and the same table as by calls, and how it ends. Answers the steps. */
+static int settle_and_compare(const char *what, int a) {
+    prepare();
+    int steps = rounds(wanted);
+    uint8_t answer = settle(image, length);
+    expect(settled(answer, steps, restless(wanted) ? LOBSTERCREEL_HELD : LOBSTERCREEL_REST), "%s (%d): answer %d, %d steps and not %d, ending %d", what, a,
+           answer, told[0], steps, told[1]);
+    expect(steps == 0 ? unchanged() : same_table(image, wanted), "%s (%d): another image", what, a);
+    return steps;
+}
+
+/* Settling runs: each ending by its name (no sound table is known that uses up the budget), and their steps. */
+static void settling(void) {
+    expect(LOBSTERCREEL_REST == 0 && LOBSTERCREEL_HELD == 1 && LOBSTERCREEL_BUDGET == 2, "the endings");
+    expect(LOBSTERCREEL_MOST_STEPS == 124 * 8 * 8, "the steps of a settling run");
+    for (int n = 1; n <= 8; n++) {
+        start(n);
+        prepare();
+        expect(settled(settle(image, length), 0, LOBSTERCREEL_REST) && unchanged(), "%d fresh units are at rest", n);
+        /* Everyone takes the proposal, answers it, is taken from, and takes the Commit. */
+        expect(lobstercreel_report(image, length, 1, all(n)) == LOBSTERCREEL_DONE, "%d units: the first proposes", n);
+        expect(settle_and_compare("an agreement", n) == 4 * n && told[1] == LOBSTERCREEL_REST, "an agreement of %d: %d steps, ending %d", n, told[0], told[1]);
+        for (int p = 1; p <= n; p++) expect(*entry(image, p, 2) == all(n) && *field(image, p, LOBSTERCREEL_NEXT) == 3, "unit %d of %d has agreed", p, n);
+    }
+    /* A Retry to 33 that would be acted on stays first on its line; the one before it is taken. */
+    start(2);
+    *field(image, 1, LOBSTERCREEL_PROPOUT) = 5;
+    *field(image, 1, LOBSTERCREEL_PROPOSAL) = all(2);
+    put(image, 2, 1, LOBSTERCREEL_RETRY, 4, 33);
+    put(image, 2, 1, LOBSTERCREEL_RETRY, 5, 33);
+    expect(settle_and_compare("a Retry to 33", 0) == 1 && told[1] == LOBSTERCREEL_HELD, "a Retry to 33: %d steps, ending %d", told[0], told[1]);
+    /* Both wait for room on the line of the other. */
+    start(2);
+    for (int p = 1; p <= 2; p++) {
+        *field(image, p, LOBSTERCREEL_PROPOUT) = 2;
+        *field(image, p, LOBSTERCREEL_PROPOSAL) = all(2);
+        *field(image, p, LOBSTERCREEL_ACKS) = only(p);
+        for (int k = 0; k < 8; k++) put(image, p, 3 - p, LOBSTERCREEL_ACC, 2, 0);
+    }
+    expect(settle_and_compare("full lines", 0) == 0 && told[1] == LOBSTERCREEL_HELD, "full lines: %d steps, ending %d", told[0], told[1]);
+    /* A record of another view, or at a unit that has stopped, could not be answered. */
+    start(2);
+    set(record(image, 1, 2), LOBSTERCREEL_PROPOSED, all(2), 2);
+    *field(image, 1, LOBSTERCREEL_VIEW) = only(1);
+    set(record(image, 2, 1), LOBSTERCREEL_PROPOSED, all(2), 2);
+    *field(image, 2, LOBSTERCREEL_CRASHED) = 1;
+    expect(settle_and_compare("records that wait", 0) == 0 && told[1] == LOBSTERCREEL_REST, "records that wait: %d steps, ending %d", told[0], told[1]);
+    *field(image, 2, LOBSTERCREEL_NEXT) = 34;
+    prepare();
+    refused_settling(image, length, "settle, a Next of 34");
+}
+
+/* The longest output: 59,996 empty lines after `u 8`. A line prints at most 10 bytes for each that it has, its line feed counted: `q` has
+ * two and prints 20 with budget; the last line may lack its line feed and so print 10 more; a sheet has 60,000 at most. */
 static void output_room(void) {
     char *e = (char *)expected;
     memset(sheet, '\n', sizeof sheet);
@@ -455,7 +552,7 @@ static void output_room(void) {
     size_t written = lobstercreel_run(sheet, sizeof sheet, out, LOBSTERCREEL_OUTPUT);
     expect(written == whole && memcmp(out, expected, whole) == 0, "the longest output: %zu bytes of %zu", written, whole);
     expect(written < LOBSTERCREEL_OUTPUT, "it is shorter than the room, and so it is whole");
-    expect(LOBSTERCREEL_OUTPUT >= 60000 * 10 + 8 * (23 + 32 * 12), "room for every line and for every unit with a full history");
+    expect(LOBSTERCREEL_OUTPUT > 60000 * 10 + 10 + 8 * (23 + 32 * 12), "room for every line and for every unit with a full history");
     for (size_t at = written; at < sizeof out; at++)
         if (out[at] != MARK) expect(0, "byte %zu past the output is written", at);
 }
@@ -510,6 +607,13 @@ static void run(unsigned seed) {
     size_t rest = lobstercreel_steps(image, length, list + LOBSTERCREEL_STEP * places, listed - LOBSTERCREEL_STEP * places, numbers, sizeof numbers);
     expect(rest == more && memcmp(numbers, answers + places, more) == 0, "seed %u: and its rest too", seed);
     expect(same_table(image, wanted), "seed %u: a list of steps leaves what they do", seed);
+    /* And then the system is settled, or not. */
+    if (rand() % 2) {
+        static const char *const words[] = {"rest", "held", "budget"};
+        settle_and_compare("settle at the end of a run", (int)seed);
+        s += sprintf(s, "q\n");
+        e += sprintf(e, "%d 0 %d %s\n", lines + 2, told[0], words[told[1]]);
+    }
     for (int p = 1; p <= n; p++) {
         const char *life = *field(image, p, LOBSTERCREEL_CRASHED) ? "stopped" : "live";
         e += sprintf(e, "unit %d %s next %d", p, life, *field(image, p, LOBSTERCREEL_NEXT));
@@ -539,6 +643,7 @@ int main(void) {
     damage();
     lists();
     cuts();
+    settling();
     output_room();
     for (unsigned seed = 1; seed <= SEEDS; seed++) run(seed);
     for (int i = 0; i < GUARD; i++)

@@ -16,6 +16,7 @@ static uint8_t stack[ROOM], image[LOBSTERCREEL_IMAGE], sheet[60001], out[LOBSTER
 static size_t length = sizeof image, given, room = sizeof out;
 static uint8_t first, second, third, list[LOBSTERCREEL_STEP * STEPS], numbers[STEPS];
 static size_t listed;
+static uint16_t told[2];
 static volatile size_t answer;
 static ucontext_t home, there;
 
@@ -30,13 +31,15 @@ static void report_cut(void) { answer = lobstercreel_report_cut(image, length, f
 static void receive_cut(void) { answer = lobstercreel_receive_cut(image, length, first, second, third); }
 static void respond_cut(void) { answer = lobstercreel_respond_cut(image, length, first, second, third); }
 static void steps(void) { answer = lobstercreel_steps(image, length, list, listed, numbers, sizeof numbers); }
+static void settle(void) { answer = lobstercreel_settle(image, length, told); }
 static void run(void) { answer = lobstercreel_run(sheet, given, out, room); }
 
-enum { NOTHING, FRESH, REPORT, RECEIVE, RESPOND, CRASH, REPORT_CUT, RECEIVE_CUT, RESPOND_CUT, LIST, RUN, CALLS };
-static void (*const calls[CALLS])(void) = {nothing, fresh, report, receive, respond, crash, report_cut, receive_cut, respond_cut, steps, run};
+enum { NOTHING, FRESH, REPORT, RECEIVE, RESPOND, CRASH, REPORT_CUT, RECEIVE_CUT, RESPOND_CUT, LIST, SETTLE, RUN, CALLS };
+static void (*const calls[CALLS])(void) = {nothing, fresh, report, receive, respond, crash, report_cut, receive_cut, respond_cut, steps, settle, run};
 static const char *const names[CALLS] = {"", "lobstercreel_fresh", "lobstercreel_report", "lobstercreel_receive",
                                          "lobstercreel_respond", "lobstercreel_crash", "lobstercreel_report_cut",
-                                         "lobstercreel_receive_cut", "lobstercreel_respond_cut", "lobstercreel_steps", "lobstercreel_run"};
+                                         "lobstercreel_receive_cut", "lobstercreel_respond_cut", "lobstercreel_steps", "lobstercreel_settle",
+                                         "lobstercreel_run"};
 static size_t most[CALLS];
 static long times[CALLS];
 
@@ -58,7 +61,7 @@ static void call(int which) {
     times[which]++;
 }
 
-/* Steps from a fresh system, a damaged byte now and then; and a sheet of such lines. */
+/* Steps from a fresh system, a damaged byte now and then; the settling run after them; and a sheet of such lines. */
 static void walk(unsigned seed) {
     srand(seed);
     int n = 1 + (int)seed % 8;
@@ -94,7 +97,15 @@ static void walk(unsigned seed) {
         list[listed++] = second;
         list[listed++] = rand() % 8 ? LOBSTERCREEL_WHOLE : (uint8_t)(rand() % 4);
         given += (size_t)sprintf((char *)sheet + given, "%c %d %d\n", "??rtas"[which], first, second % 10);
+        if (rand() % 20 == 0) {
+            call(SETTLE);
+            given += (size_t)sprintf((char *)sheet + given, "q\n");
+        }
     }
+    call(SETTLE);
+    image[0] = 9;
+    call(SETTLE);
+    given += (size_t)sprintf((char *)sheet + given, "q\n");
     call(RUN);
     first = (uint8_t)n;
     call(FRESH);

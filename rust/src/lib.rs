@@ -25,6 +25,7 @@ extern "C" {
         numbers: *mut u8,
         places: usize,
     ) -> usize;
+    fn lobstercreel_settle(image: *mut u8, length: usize, told: *mut [u16; 2]) -> u8;
     fn lobstercreel_run(sheet: *const u8, length: usize, out: *mut u8, room: usize) -> usize;
 }
 
@@ -136,6 +137,48 @@ pub fn steps_into(image: &mut [u8], list: &[u8], numbers: &mut [u8]) -> usize {
     }
 }
 
+/// A settling run stops after so many steps done at the latest.
+pub const MOST_STEPS: u16 = 7_936;
+
+/// How a settling run ended.
+#[derive(Clone, Copy, Debug, PartialEq, Eq)]
+pub enum Ending {
+    /// No message waits, and no answer could be given.
+    Rest,
+    /// Everything else.
+    Held,
+    /// [`MOST_STEPS`] were done, and a further take or answer would be.
+    Budget,
+}
+
+/// What a settling run did: how many steps, and how it ended.
+#[derive(Clone, Copy, Debug, PartialEq, Eq)]
+pub struct Settling {
+    pub steps: u16,
+    pub ending: Ending,
+}
+
+/// The settling run: takes and answers in rounds, until a whole round does nothing. What is no image of
+/// a sound system is refused with 1; where no step is done, every byte stays.
+pub fn settle(image: &mut [u8]) -> Result<Settling, Refusal> {
+    let mut told = [0; 2];
+    settle_into(image, &mut told)?;
+    let [steps, ending] = told;
+    let ending = match ending {
+        0 => Ending::Rest,
+        1 => Ending::Held,
+        _ => Ending::Budget,
+    };
+    Ok(Settling { steps, ending })
+}
+
+/// The same, told in numbers: the steps done, and 0 for rest, 1 for held, 2 for budget. With refusal 1
+/// they are 0 and 1.
+pub fn settle_into(image: &mut [u8], told: &mut [u16; 2]) -> Answer {
+    // SAFETY: as in `step`; the two numbers are lent alone too, so they do not overlap.
+    answer(unsafe { lobstercreel_settle(image.as_mut_ptr(), image.len(), told) })
+}
+
 /// Writes the image of the fresh system of n processes. For a wrong n it gives refusal 2 and writes
 /// that of none; for a slice that has not the length of an image, refusal 1 and nothing is written.
 pub fn fresh(image: &mut [u8], n: u8) -> Answer {
@@ -184,6 +227,10 @@ impl System {
 
     pub fn perform_all(&mut self, list: &[Step]) -> Vec<Answer> {
         steps(&mut self.image, list)
+    }
+
+    pub fn settle(&mut self) -> Result<Settling, Refusal> {
+        settle(&mut self.image)
     }
 
     /// The entry of process p, 1 to n, at position i, if it is written.

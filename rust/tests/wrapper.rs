@@ -2,8 +2,8 @@
 //! entry. The bytes of the images are those of docs/IMAGE.md.
 
 use lobstercreel::{
-    fresh, run_sheet, run_sheet_into, step, steps_into, Action, Refusal, Step, System, IMAGE,
-    OUTPUT, WHOLE,
+    fresh, run_sheet, run_sheet_into, settle, settle_into, step, steps_into, Action, Ending,
+    Refusal, Settling, Step, System, IMAGE, MOST_STEPS, OUTPUT, WHOLE,
 };
 
 /// A fresh image of n processes.
@@ -24,6 +24,7 @@ fn both(p: u8, q: u8) -> u8 {
 
 const COMMIT: u8 = 3;
 const ACC: u8 = 2;
+const RETRY: u8 = 1;
 
 #[test]
 fn only_an_image_of_its_length() {
@@ -32,6 +33,7 @@ fn only_an_image_of_its_length() {
         let mut bytes = before.clone();
         assert_eq!(fresh(&mut bytes, 2), Err(Refusal(1)), "{length}");
         assert_eq!(step(&mut bytes, Action::Crash { p: 1 }), Err(Refusal(1)), "{length}");
+        assert_eq!(settle(&mut bytes), Err(Refusal(1)), "{length}");
         assert_eq!(bytes, before);
     }
 }
@@ -242,6 +244,46 @@ fn cuts() {
     }
     assert_eq!(one, System::fresh(1).unwrap());
     assert_eq!(listed, one);
+}
+
+/// A settling run: its steps, how it ends, and the numbers that C is told.
+#[test]
+fn settling() {
+    for n in 1..=8 {
+        let mut system = System::fresh(n).unwrap();
+        let rest = |steps| Ok(Settling { steps, ending: Ending::Rest });
+        assert_eq!(system.settle(), rest(0));
+        assert_eq!(*system.image(), image(n));
+        assert_eq!(system.perform(Action::Report { p: 1, view: everyone(n) }), Ok(()));
+        // n Proposes, Accs and Commits are taken, and n answers given.
+        assert_eq!(system.settle(), rest(4 * u16::from(n)));
+        assert!((1..=n).all(|p| system.entry(p, 2) == Some(everyone(n))));
+        let mut told = [77; 2];
+        let mut bytes = *system.image();
+        assert_eq!(settle_into(&mut bytes, &mut told), Ok(()));
+        assert_eq!(told, [0, 0]);
+        assert_eq!(bytes, *system.image());
+    }
+    assert_eq!(u32::from(MOST_STEPS), 124 * 8 * 8);
+    // Held up by a Retry to 33; the other process is done with before.
+    let mut held = image(2);
+    held[1 + 3] = 5;
+    held[1 + 4] = 3;
+    send(&mut held, 2, 1, [RETRY, 5, 33]);
+    send(&mut held, 1, 2, [COMMIT, 3, 4]);
+    let mut system = System::from_image(held);
+    assert_eq!(system.settle(), Ok(Settling { steps: 1, ending: Ending::Held }));
+    assert_eq!(system.entry(2, 4), Some(3));
+    let mut told = [77; 2];
+    assert_eq!(settle_into(&mut held, &mut told), Ok(()));
+    assert_eq!(told, [1, 1]);
+    // What is not sound is refused and stays.
+    held[1 + 2] = 34;
+    let before = held;
+    assert_eq!(settle_into(&mut held, &mut told), Err(Refusal(1)));
+    assert_eq!(told, [0, 1]);
+    assert_eq!(settle(&mut held), Err(Refusal(1)));
+    assert_eq!(held, before);
 }
 
 /// The longest output is whole; a small buffer gets its beginning.

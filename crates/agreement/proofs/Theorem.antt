@@ -18,6 +18,7 @@ use Rattle.system.specs.declared.System.{System}
 use Rattle.system.specs.Process.{entryAt, noEntries}
 use Rattle.system.specs.System.{noProcess, processAt}
 use Rattle.step.specs.Step.{Event, happened, ran}
+use Rattle.step.proofs.Outcomes.{ran-append}
 use Rattle.agreement.specs.Accepted.{Acceptance, acceptedIn}
 use Rattle.agreement.specs.Book.{entryIn, Agreement, Book, bookEntry, openedBook, fedAll}
 use Rattle.agreement.specs.Demand.{start, Demand}
@@ -145,11 +146,6 @@ module _ (s : System) (beginning : Reached s []) (empty : (p i : ℕ) → 2 ≤ 
       early (suc (suc j)) l a b = absurd (omega arith)
 
 -- ---- what is written stays
-ran-append : (s : System) (first rest : List Event) → ran s (first ++ rest) ≡ ran (ran s first) rest
-unfolding ran
-ran-append s [] rest = refl
-ran-append s (e ∷ first) rest = ran-append (happened s e .system) first rest
-
 pub demand-3 : (n : ℕ) (es : List Event) → Demand n es
 demand-3 n es =
     record {

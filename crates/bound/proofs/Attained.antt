@@ -11,8 +11,8 @@ use Rattle.plan.specs.Plan.{changed, reportPlan, committingPlan, messagePlan, r
 use Rattle.plan.specs.Scope.{scopeOf}
 use Rattle.plan.specs.Cut.{cutBy}
 use Rattle.step.specs.Step.{planOf, takenOff, crashedIf, effected, carriedOut, permitted, attempted, stepped, happened}
-use Rattle.bound.specs.Bound.{takeOrAnswer, takeOrAnswerDone, takesAndAnswers, rounds, Attained}
+use Rattle.bound.specs.Bound.{takeOrAnswer, takeOrAnswerDone, takesAndAnswers, proposedAlone, Attained}
 
 pub attained : Attained
-unfolding pick allUpTo eachUpTo at put has within with everyone firstFrom leastOf emptyChannel waiting pushed popped entryAt withEntry pendingAt noProcess processAt withProcess channelNumber channelAt withChannel sent sentIfNamed broadcasted takesIfNamed roomFor freshVariables freshProcess freshSystem freshOf every soundProposal soundMessage soundPending soundChannel soundHistory soundVariables soundProcess soundChannelAt soundAt soundSystem changed reportPlan committingPlan messagePlan receivePlan respondPlan scopeOf planOf takenOff crashedIf effected carriedOut permitted attempted stepped cutBy happened takeOrAnswer takeOrAnswerDone takesAndAnswers rounds
+unfolding pick allUpTo eachUpTo at put has within with everyone firstFrom leastOf emptyChannel waiting pushed popped entryAt withEntry pendingAt noProcess processAt withProcess channelNumber channelAt withChannel sent sentIfNamed broadcasted takesIfNamed roomFor freshVariables freshProcess freshSystem freshOf every soundProposal soundMessage soundPending soundChannel soundHistory soundVariables soundProcess soundChannelAt soundAt soundSystem changed reportPlan committingPlan messagePlan receivePlan respondPlan scopeOf planOf takenOff crashedIf effected carriedOut permitted attempted stepped cutBy happened takeOrAnswer takeOrAnswerDone takesAndAnswers proposedAlone
 attained = refl

@@ -5,3 +5,4 @@ pub mod Changes
 pub mod Steps
 pub mod Theorem
 pub mod Attained
+pub mod Settling

@@ -22,10 +22,9 @@ use Rattle.sound.specs.Sound.{soundSystem}
 use Rattle.plan.specs.declared.Step.{Step}
 use Rattle.step.specs.Step.{stepped, Event, does, happened, ran}
 use Rattle.step.proofs.Soundness.{Valid, sound-facts}
-use Rattle.step.proofs.Cases.{outline}
 use Rattle.step.proofs.Inversion.{by-outcome}
 use Rattle.step.proofs.SoundSteps.{step-sound}
-use Rattle.step.proofs.Outcomes.{unsound-is-1}
+use Rattle.step.proofs.Outcomes.{size-kept, unsound-is-1}
 use Rattle.step.proofs.Beginning.{nothing-recorded, nothing-waits, fresh-valid}
 use Rattle.bound.specs.Bound.{takeOrAnswerDone, takesAndAnswers, allDone, Bound, Further}
 use Rattle.bound.proofs.Sums.{pairs, pairs-fall-at, pairs-at-most}
@@ -55,9 +54,6 @@ step-paid s valid o =
     (λ t k. total-paid (transition-pays (valid .shape) (o .action) k))
     (λ j n. rw (ne-eqb j 0 n) (omega arith))
 
-step-size : (s : System) → Valid s → (o : Step) → stepped s o .system .n ≡ s .n
-step-size s valid o = by-outcome (λ (a : Outcome). a .system .n ≡ s .n) s o valid (λ t k. outline k .effect .size) (λ j n. refl)
-
 -- whatever is done, and what is due then, was due before
 pub run-paid : (n : ℕ) (s : System) → s .n ≡ n → Valid s → (os : List Event) → takesAndAnswers s os + total n (ran s os) ≤ total n s
 unfolding takesAndAnswers happened ran
@@ -66,7 +62,7 @@ run-paid n s e valid (does o ∷ os) =
     omega (
       arith,
       subst (λ (k : ℕ). takeOrAnswerDone (stepped s o) (does o) + total k (stepped s o .system) ≤ total k s) e (step-paid s valid o),
-      run-paid n (stepped s o .system) (step-size s valid o ∙ e) (step-sound s o valid) os,
+      run-paid n (stepped s o .system) (size-kept s o ∙ e) (step-sound s o valid) os,
     )
 
 -- ---- at the start

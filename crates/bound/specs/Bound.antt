@@ -52,16 +52,16 @@ abbrev fully : Action → Event
 fully o = does (whole o)
 
 -- one process alone, k times: it proposes itself, takes its proposal, answers, takes the answer and takes the Commit
-unfoldable pub rounds : ℕ → List Event
-rounds zero = []
-rounds (suc k) =
+unfoldable pub proposedAlone : ℕ → List Event
+proposedAlone zero = []
+proposedAlone (suc k) =
     fully (Report alone 1)
     ∷ fully (Receive alone alone)
     ∷ fully (Respond alone alone)
     ∷ fully (Receive alone alone)
     ∷ fully (Receive alone alone)
-    ∷ rounds k
+    ∷ proposedAlone k
 
 -- no less will do: 31 such rounds are 124
 abbrev pub Attained : Type 0
-Attained = takesAndAnswers (freshOf 1 .system) (rounds 31) ≡ 124
+Attained = takesAndAnswers (freshOf 1 .system) (proposedAlone 31) ≡ 124

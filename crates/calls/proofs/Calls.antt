@@ -9,6 +9,7 @@ use Rattle.system.specs.declared.System.{System}
 use Rattle.system.specs.declared.Outcome.{Outcome}
 use Rattle.system.specs.Fresh.{freshOf}
 use Rattle.step.specs.Step.{stepped, Event, happened, ran}
+use Rattle.step.proofs.Outcomes.{ran-append}
 use Rattle.image.specs.Image.{imageWidth, systemIn}
 use Rattle.engine.specs.declared.Order.{Order}
 use Rattle.engine.specs.declared.Order.the-variants.{Unknown, Do}
@@ -16,7 +17,7 @@ use Rattle.engine.specs.Engine.{ordersIn, obeyed, systemAfter}
 use Rattle.capi.specs.Calls.{Freshens}
 use Rattle.agreement.specs.Demand.{start}
 use Rattle.agreement.proofs.Theorem.{demand-3}
-use Rattle.calls.specs.Calls.{stepsAmong, Called, nothing, step, steps, CalledRun, EveryRun}
+use Rattle.calls.specs.Calls.{stepsAmong, Called, nothing, step, steps, settling, CalledRun, EveryRun}
 
 -- a list of orders is the list of its steps
 orders-ran : (s : System) (os : List Order) (rest : List Event) → ran (systemAfter s os) rest ≡ ran s (stepsAmong os ++ rest)
@@ -31,6 +32,8 @@ called-ran nothing = refl
 called-ran (step {es} gives rest) = called-ran rest ∙ ap (λ (x : Outcome). ran (x .system) es) (gives .outcome)
 called-ran (steps {b} {list} {m} {es} performs rest) =
     called-ran rest ∙ ap (λ (x : System). ran x es) (performs .system) ∙ orders-ran (systemIn b) (ordersIn (length m) list) es
+called-ran (settling {b} {ms} {es} tells moves rest) =
+    called-ran rest ∙ ap (λ (x : System). ran x es) (tells .system ∙ sym (moves .system)) ∙ sym (ran-append (systemIn b) ms es)
 
 begun : (n k : ℕ) (a b : List ℕ) → length a ≡ imageWidth → Freshens n a k b → systemIn b ≡ start n
 unfolding pick

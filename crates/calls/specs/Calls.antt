@@ -10,7 +10,9 @@ use Rattle.image.specs.Image.{imageWidth, systemIn}
 use Rattle.engine.specs.declared.Order.{Order}
 use Rattle.engine.specs.declared.Order.the-variants.{Unknown, Do}
 use Rattle.engine.specs.Engine.{Gives, Performs, ordersIn}
-use Rattle.capi.specs.Calls.{Freshens}
+use Rattle.settle.specs.Settle.{settled}
+use Rattle.bound.specs.Settling.{Moves}
+use Rattle.capi.specs.Calls.{Freshens, Tells}
 use Rattle.agreement.specs.Demand.{Demand, start}
 
 -- the steps of a list of orders: what is no step is left out
@@ -25,6 +27,10 @@ pub data Called : List ℕ → List Event → List ℕ → Type 0 where
   step : {b c d : List ℕ} {k : ℕ} {o : Step} {es : List Event} → Gives (stepped (systemIn b) o) b k c → Called c es d → Called b (does o ∷ es) d
   steps : {b c d list m numbers : List ℕ} {r : ℕ} {es : List Event} → Performs list b m r c numbers → Called c es d
       → Called b (stepsAmong (ordersIn (length m) list) ++ es) d
+  -- the takes and answers of a settling run: there are such for every run (`settles-by` in crate bound)
+  settling : {b c d pair told : List ℕ} {k : ℕ} {ms es : List Event} → Tells (settled 7936 (systemIn b)) b k c pair told
+      → Moves (systemIn b) ms (settled 7936 (systemIn b) .steps) (settled 7936 (systemIn b) .system)
+      → Called c es d → Called b (ms ++ es) d
 
 -- bytes c, after a fresh system of n was asked for and calls for these steps were made: they hold the system after the steps, and
 -- demand 3 holds of it

@@ -7,13 +7,15 @@ ghost use Rattle.step.specs.Step.{stepped};
 ghost use Rattle.image.specs.Image.{systemIn};
 ghost use Rattle.engine.specs.Engine.{Gives, Performs};
 ghost use Rattle.run.specs.Output.{output};
-ghost use Rattle.capi.specs.Calls.{Freshens, Prints};
+ghost use Rattle.settle.specs.Settle.{settled};
+ghost use Rattle.capi.specs.Calls.{Freshens, Prints, endingNumber, Tells};
 use engine::perform;
 use fresh::put_fresh;
 use image::IMAGE;
 use plan::Action;
 use plan::Cut;
 use plan::Step;
+use settle::Ending;
 use system::refusal::STRANGER;
 use system::refusal::UNSOUND;
 use view::ProcessId;
@@ -119,12 +121,36 @@ pub extern "C" fn lobstercreel_respond_cut(image: &mut [u8], p: u8, q: u8, k: u8
     perform_cut(image, Action::Respond(ProcessId(p), ProcessId(q)), k)
 }
 
+// 0 for a system at rest, 1 for one held up, 2 where the budget was used up.
+fn ending_number(e: Ending) -> u16
+    ensures { λ r. ⌜ r ≡ endingNumber e ⌝ }
+{
+    match e {
+        Ending::Rest => 0,
+        Ending::Held => 1,
+        Ending::Budget => 2,
+    }
+}
+
 // A list of steps, four bytes each, and their numbers.
 #[no_mangle]
 pub extern "C" fn lobstercreel_steps(image: &mut [u8], list: &[u8], numbers: &mut [u8]) -> usize
     ensures { λ r. ⌜ Performs (now (list .entry)) (now (image .entry)) (now (numbers .entry)) r (now (image .exit)) (now (numbers .exit)) ⌝ }
 {
     engine::perform_all(image, list, numbers)
+}
+
+// The settling run: takes and answers, until a whole round does nothing. The steps done and how it
+// ended go into the lent pair.
+#[no_mangle]
+pub extern "C" fn lobstercreel_settle(image: &mut [u8], told: &mut [u16; 2]) -> u8
+    ensures { λ r. ⌜ Tells (settled 7936 (systemIn (now (image .entry)))) (now (image .entry)) r (now (image .exit)) (now (told .entry)) (now (told .exit)) ⌝ }
+{
+    let run = settle::settle(image);
+    let ending = run.ending;
+    told[0] = run.steps;
+    told[1] = ending_number(ending);
+    run.refusal
 }
 
 // A whole sheet, from its bytes to what is printed, as far as the buffer has room. The answer is how

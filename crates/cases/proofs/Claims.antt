@@ -16,6 +16,8 @@ use Rattle.plan.specs.Plan.{changed, reportPlan, committingPlan, messagePlan, r
 use Rattle.plan.specs.Scope.{scopeOf}
 use Rattle.plan.specs.Cut.{cutShort, cutBy}
 use Rattle.step.specs.Step.{planOf, takenOff, emptiedFrom, crashedAt, crashedIf, effected, carriedOut, permitted, attempted, stepped, happened, ran}
+use Rattle.step.specs.Rest.{idleFrom, matches, answerable, restingFrom, restingAt, atRest}
+use Rattle.settle.specs.Settle.{passing, tried, moveOf, triedWith, triedAt, halfDone, roundDone, unlessIdle, roundsDone, refusedAt, allRefusedAt, noneDone, nothingToDo, endingOf, endedWith, settled}
 use Rattle.agreement.specs.Accepted.{acceptedFrom, acceptedAs, acceptedBy, acceptedIn, accepted}
 use Rattle.agreement.specs.Book.{bookEntry, openedBook, apart, apartFrom, admits, writtenIn, madeIn, fed, fedAll, noneRefused}
 use Rattle.agreement.specs.Demand.{start}
@@ -24,11 +26,12 @@ use Rattle.print.specs.Print.{numberedLine, columnLine, entryText, entryTextAt,
 use Rattle.sheet.specs.Lines.{inFirst, withByte, linesOf}
 use Rattle.sheet.specs.Grammar.{piece, passed, ended, followed, readings, some, begins, greatest, column, firstReading, read}
 use Rattle.sheet.specs.Parse.{meaningFirst, meaning, opened, parsed}
-use Rattle.run.specs.Output.{answered, badLine, lineDone, printedThen, printedFrom, badFrom, startedBy, linesOutput, output}
+use Rattle.run.specs.Output.{answered, badLine, endingText, settledAs, lineDone, printedThen, printedFrom, badFrom, startedBy, linesOutput, output}
 use Rattle.cases.specs.Systems.{two, withValues, withStop, withRecord, withWritten, loaded, withMessages, lone}
 use Rattle.cases.specs.Worked.{textOf, stepIn, stepsIn, stepsOf, printedBy, openedWith, startOf, ranOn, queueIn, resultOf, expectedResult}
-use Rattle.cases.specs.Sheets.{k-sheets, k1, k1-ends, k2, k3, k4, k4-full, k5-stays, k5, k6, k7, k8, k8-nine, k9, form-sheets, no-last-lf, later-u, empty-lines, first-u9, one-lf, empty}
+use Rattle.cases.specs.Sheets.{k-sheets, k1, k1-ends, k2, k3, k4, k4-full, k5-stays, k5, k6, k7, k8, k8-nine, k9, form-sheets, settle-two, no-last-lf, later-u, empty-lines, first-u9, one-lf, empty}
 use Rattle.cases.specs.Points.{points, lineOutcome, outcomeOf, expectedOutcome}
+use Rattle.cases.specs.Settles.{settlings, settledOf, expectedSettled, proposedToTwo, writtenAtTwo, writtenAtBoth, recordedByOne, crosswise}
 use Rattle.cases.specs.Cuts.{proposedBy1, told, proposing, lastAcc, fullRetry, lastIndex, answering, cuts, cutStop, acceptedByCut, acceptedIsCut}
 use Rattle.cases.specs.Rule.{k2-accepted, k2-agreements, k2-book, at-two, at-three, twice-accepted, shared, trials, admittedBy, expectedAnswer}
 
@@ -42,16 +45,19 @@ unfolding pick allUpTo eachUpTo at put has within with everyone firstFrom leastO
     every soundProposal soundMessage soundPending soundChannel soundHistory soundVariables soundProcess soundChannelAt soundAt soundSystem
     changed reportPlan committingPlan messagePlan receivePlan respondPlan scopeOf cutShort cutBy
     planOf takenOff emptiedFrom crashedAt crashedIf effected carriedOut permitted attempted stepped happened ran
+    idleFrom matches answerable restingFrom restingAt atRest
+    passing tried moveOf triedWith triedAt halfDone roundDone unlessIdle roundsDone refusedAt allRefusedAt noneDone nothingToDo endingOf endedWith settled
     acceptedFrom acceptedAs acceptedBy acceptedIn accepted
     bookEntry openedBook apart apartFrom admits writtenIn madeIn fed fedAll noneRefused
     bytes textUpTo digits decimal memberText viewText
     numberedLine columnLine entryText entryTextAt historyText unitLine unitOf unitLines
     inFirst withByte linesOf flatMap piece passed ended followed readings some begins greatest column firstReading read opened parsed
-    answered meaningFirst meaning badLine lineDone printedThen printedFrom badFrom startedBy linesOutput output
+    answered meaningFirst meaning badLine endingText settledAs lineDone printedThen printedFrom badFrom startedBy linesOutput output
     withValues withStop withRecord withWritten loaded withMessages lone
     textOf stepIn stepsIn stepsOf printedBy openedWith startOf ranOn queueIn resultOf expectedResult
-    k1 k1-ends k2 k3 k4 k4-full k5-stays k5 k6 k7 k8 k8-nine k9 no-last-lf later-u empty-lines first-u9 one-lf empty
+    k1 k1-ends k2 k3 k4 k4-full k5-stays k5 k6 k7 k8 k8-nine k9 settle-two no-last-lf later-u empty-lines first-u9 one-lf empty
     lineOutcome outcomeOf proposedBy1 told proposing lastAcc fullRetry lastIndex answering cutStop acceptedByCut acceptedIsCut
+    settledOf proposedToTwo writtenAtTwo writtenAtBoth recordedByOne crosswise
     k2-accepted k2-agreements k2-book at-two at-three twice-accepted shared trials admittedBy
 definitions = tt
 
@@ -81,6 +87,11 @@ stop-not-cut = refl
 pub cut-answer-accepts : acceptedByCut ≡ acceptedIsCut
 unfolding definitions
 cut-answer-accepts = refl
+
+-- Settling runs.
+pub worked-settlings : map settledOf settlings ≡ map expectedSettled settlings
+unfolding definitions
+worked-settlings = refl
 
 -- K8, of every size outside 1 to 8: it "gives refusal 2 and a table of zero units"; and of every step there is: "every step on it
 -- gives 1".

@@ -5,3 +5,4 @@ pub mod Sheets
 pub mod Points
 pub mod Rule
 pub mod Cuts
+pub mod Settles

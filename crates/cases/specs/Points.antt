@@ -12,8 +12,9 @@ use Rattle.system.specs.Process.{index}
 use Rattle.system.specs.System.{done, refused}
 use Rattle.print.specs.Text.{bytes}
 use Rattle.step.specs.Step.{stepped}
+use Rattle.settle.specs.Settle.{settled}
 use Rattle.sheet.specs.declared.parse.Line.{Line}
-use Rattle.sheet.specs.declared.parse.Line.the-variants.{Bad, Step}
+use Rattle.sheet.specs.declared.parse.Line.the-variants.{Bad, Step, Settle}
 use Rattle.sheet.specs.Parse.{parsed}
 use Rattle.cases.specs.Systems.{one, two, withValues, withStop, withRecord, withWritten, withMessages, lone}
 
@@ -29,10 +30,11 @@ point s l o = record { before = s; line = l; after = o }
 abbrev pub refuses : System → String → ℕ → Point
 refuses s l k = point s l (refused k s)
 
--- what a line does: its step, or nothing
+-- what a line does: its step, a settling run, or nothing
 unfoldable pub lineOutcome : System → Line → Outcome
 lineOutcome s (Bad column) = refused 8 s
 lineOutcome s (Step o) = stepped s o
+lineOutcome s Settle = record { refusal = settled 7936 s .refusal; system = settled 7936 s .system }
 
 -- by the definitions
 unfoldable pub outcomeOf : Point → Outcome

@@ -189,5 +189,11 @@ one-lf = wholeSheet ("\n" ∷ []) ("1 8 1\n" ∷ [])
 unfoldable pub empty : WorkedSheet
 empty = wholeSheet [] []
 
+-- S-4: two takes and two answers; process 1 takes both Accs, process 2 its Commit; then process 1 its own
+unfoldable pub settle-two : WorkedSheet
+settle-two =
+    wholeSheet ("u 2\nr 1 12\nq\nq \nq\n" ∷ [])
+    ("2 0\n3 0 8 rest\n4 8 2\n5 0 0 rest\n" ∷ "unit 1 live next 3 1=12 2=12\n" ∷ "unit 2 live next 3 1=12 2=12\n" ∷ [])
+
 abbrev pub form-sheets : List WorkedSheet
-form-sheets = no-last-lf ∷ later-u ∷ empty-lines ∷ first-u9 ∷ one-lf ∷ empty ∷ []
+form-sheets = settle-two ∷ no-last-lf ∷ later-u ∷ empty-lines ∷ first-u9 ∷ one-lf ∷ empty ∷ []

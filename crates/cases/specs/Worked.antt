@@ -14,7 +14,7 @@ use Rattle.print.specs.Text.{bytes}
 use Rattle.sheet.specs.declared.parse.Opening.{Opening}
 use Rattle.sheet.specs.declared.parse.Opening.the-variants.{Bad as BadFirst, Fresh}
 use Rattle.sheet.specs.declared.parse.Line.{Line}
-use Rattle.sheet.specs.declared.parse.Line.the-variants.{Bad, Step}
+use Rattle.sheet.specs.declared.parse.Line.the-variants.{Bad, Step, Settle}
 use Rattle.sheet.specs.Lines.{linesOf}
 use Rattle.sheet.specs.Parse.{opened, parsed}
 use Rattle.run.specs.Output.{answered, printedThen, printedFrom, output}
@@ -24,10 +24,11 @@ unfoldable pub textOf : List String → List ℕ
 textOf [] = []
 textOf (s ∷ ss) = bytes s ++ textOf ss
 
--- the steps that the lines of a text ask for
+-- the steps that the lines of a text ask for; a settling run is left out, so that this is asked of texts without a `q` only
 unfoldable pub stepIn : Line → List Event
 stepIn (Bad column) = []
 stepIn (Step o) = does o ∷ []
+stepIn Settle = []
 
 unfoldable pub stepsIn : List (List ℕ) → List Event
 stepsIn [] = []

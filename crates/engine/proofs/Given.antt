@@ -28,7 +28,7 @@ use Rattle.image.proofs.Shape.{rows-long, slots-long, pending-long, entries-lon
 use Rattle.engine.specs.Engine.{Gives, Attempts}
 
 -- ---- a sound system that bytes hold is valid
-no-system : soundSystem noSystem ≡ false
+pub no-system : soundSystem noSystem ≡ false
 unfolding soundSystem noSystem
 no-system = refl
 

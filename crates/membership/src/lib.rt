@@ -5,9 +5,11 @@ ghost use Rattle.plan.specs.declared.Action.{Action};
 ghost use Rattle.plan.specs.Cut.{whole};
 ghost use Rattle.step.specs.Step.{stepped};
 ghost use Rattle.image.specs.Image.{imageWidth};
+ghost use Rattle.settle.specs.Settle.{settled};
 use plan::Action;
 use plan::Cut;
 use plan::Step;
+use settle::Settled;
 use system::Outcome;
 use system::System;
 use view::ProcessId;
@@ -69,4 +71,21 @@ pub fn crash(s: System, p: ProcessId) -> Outcome
     ensures { λ r. ⌜ r ≡ stepped s (whole (Action.Crash p)) ⌝ }
 {
     perform_whole(s, Action::Crash(p))
+}
+
+// The settling run: takes and answers, until a whole round of them does nothing.
+pub fn settle(s: System) -> Settled
+    ensures { λ r. ⌜ r ≡ settled 7936 s ⌝ }
+{
+    let mut image = image_buffer();
+    codec::encode(s, &mut image);
+    let run = settle::settle(&mut image);
+    let system = codec::decode(&image);
+    let ending = run.ending;
+    Settled {
+        refusal: run.refusal,
+        steps: run.steps,
+        ending,
+        system,
+    }
 }

@@ -15,7 +15,7 @@ use Rattle.system.specs.declared.Process.{Process}
 use Rattle.system.specs.declared.System.{System}
 use Rattle.system.specs.System.{processAt}
 use Rattle.print.specs.Text.{bytes, textUpTo, digits, decimal, memberText, viewText}
-use Rattle.print.specs.Print.{numbers, numberedLine, columnLine, entryText, entryTextAt, historyText, unitLine, unitOf, unitLines}
+use Rattle.print.specs.Print.{numbers, threeNumbers, numberedLine, columnLine, entryText, entryTextAt, historyText, unitLine, unitOf, unitLines}
 
 record AtMost (m : ℕ) (l : List ℕ) : Type 0 where
   bytes-are : length l ≤ m
@@ -93,17 +93,19 @@ pub numbered-length : (line number : ℕ) → line < 100000 → number < 100 →
 unfolding numberedLine
 numbered-length line number hl hn = both (numbers-length line number hl hn) (words .feed) .bytes-are
 
--- one digit after it, and a column of at most d + 1 digits
+-- one digit after it, and a third number of at most d + 1 digits
+pub three-length : (d line number third : ℕ) → line < 100000 → number < 10 → third < 10 ^ suc d → length (threeNumbers line number third) ≤ d + 9
+three-length d line number third hl hn ht =
+    omega (
+      arith,
+      both (both (both (both (few-digits 4 line hl) (words .space)) (few-digits 0 number hn)) (words .space)) (few-digits d third ht) .bytes-are,
+    )
+
+-- and a column
 pub column-length : (d line number column : ℕ) → line < 100000 → number < 10 → column < 10 ^ suc d → length (columnLine line number column) ≤ d + 10
 unfolding columnLine
 column-length d line number column hl hn hc =
-    omega (
-      arith,
-      both
-          (both (both (both (both (few-digits 4 line hl) (words .space)) (few-digits 0 number hn)) (words .space)) (few-digits d column hc))
-          (words .feed)
-          .bytes-are,
-    )
+    omega (arith, length-append (threeNumbers line number column) (bytes "\n"), words .feed .bytes-are, three-length d line number column hl hn hc)
 
 -- ---- views, histories and units
 view-length : (v : ℕ) → AtMost 8 (viewText v)

@@ -18,9 +18,13 @@ numbers line number = decimal line ++ bytes " " ++ decimal number
 unfoldable pub numberedLine : ℕ → ℕ → List ℕ
 numberedLine line number = numbers line number ++ bytes "\n"
 
--- Document 02, of a bad line: "The column stands after the 8 and a space."
+-- with a third number after a space: document 02, of a bad line, "The column stands after the 8 and a space."; document 01, of `q`, "after
+-- its 0 the program prints the steps done"
+abbrev pub threeNumbers : ℕ → ℕ → ℕ → List ℕ
+threeNumbers line number third = numbers line number ++ bytes " " ++ decimal third
+
 unfoldable pub columnLine : ℕ → ℕ → ℕ → List ℕ
-columnLine line number column = numbers line number ++ bytes " " ++ decimal column ++ bytes "\n"
+columnLine line number column = threeNumbers line number column ++ bytes "\n"
 
 -- `position=view`, for a view that is not empty
 unfoldable pub entryText : ℕ → ℕ → List ℕ

@@ -8,7 +8,7 @@ ghost use Rattle.system.specs.System.{processAt};
 ghost use Rattle.image.specs.Image.{systemIn};
 ghost use Rattle.print.specs.Text.{bytes, digit, digits, decimal, memberText, viewText};
 ghost use Rattle.print.specs.Page.{page, typed};
-ghost use Rattle.print.specs.Print.{numbers, numberedLine, columnLine, entryText, historyText, unitLine, unitLines};
+ghost use Rattle.print.specs.Print.{numbers, threeNumbers, numberedLine, columnLine, entryText, historyText, unitLine, unitLines};
 use image::entry_at;
 use image::size;
 use image::variables_at;
@@ -201,12 +201,19 @@ pub fn put_numbered(out: &mut [u8], at: usize, line: usize, number: u8) -> usize
     put_text(out, a, b"\n")
 }
 
+// The same with a third number after them, and no line feed.
+pub fn put_three_numbers(out: &mut [u8], at: usize, line: usize, number: u8, third: usize) -> usize
+    ensures { λ r. ⌜ page (now (out .exit)) r ≡ typed (page (now (out .entry)) at) (threeNumbers line number third) ⌝ }
+{
+    let a = put_numbers(out, at, line, number);
+    let b = put_text(out, a, b" ");
+    put_decimal(out, b, third)
+}
+
 // The same with a column after them.
 pub fn put_column(out: &mut [u8], at: usize, line: usize, number: u8, column: usize) -> usize
     ensures { λ r. ⌜ page (now (out .exit)) r ≡ typed (page (now (out .entry)) at) (columnLine line number column) ⌝ }
 {
-    let a = put_numbers(out, at, line, number);
-    let b = put_text(out, a, b" ");
-    let c = put_decimal(out, b, column);
-    put_text(out, c, b"\n")
+    let a = put_three_numbers(out, at, line, number, column);
+    put_text(out, a, b"\n")
 }

@@ -12,12 +12,16 @@ use Rattle.system.specs.declared.System.{System}
 use Rattle.system.specs.declared.Outcome.{Outcome}
 use Rattle.system.specs.Fresh.{freshSystem}
 use Rattle.step.specs.Step.{stepped}
+use Rattle.settle.specs.declared.Ending.{Ending}
+use Rattle.settle.specs.declared.Ending.the-variants.{Rest, Held, Budget}
+use Rattle.settle.specs.declared.Settled.{Settled}
+use Rattle.settle.specs.Settle.{settled}
 use Rattle.print.specs.Text.{bytes}
-use Rattle.print.specs.Print.{numberedLine, columnLine, unitLines}
+use Rattle.print.specs.Print.{threeNumbers, numberedLine, columnLine, unitLines}
 use Rattle.sheet.specs.declared.parse.Opening.{Opening}
 use Rattle.sheet.specs.declared.parse.Opening.the-variants.{Bad as BadFirst, Fresh}
 use Rattle.sheet.specs.declared.parse.Line.{Line}
-use Rattle.sheet.specs.declared.parse.Line.the-variants.{Bad, Step}
+use Rattle.sheet.specs.declared.parse.Line.the-variants.{Bad, Step, Settle}
 use Rattle.sheet.specs.Lines.{linesOf}
 use Rattle.sheet.specs.Parse.{Meaning, meaningFirst, meaning, opened, parsed}
 
@@ -34,10 +38,22 @@ answered k o = record { text = numberedLine k (o .refusal); system = o .system }
 unfoldable pub badLine : ℕ → Meaning → List ℕ
 badLine k m = columnLine k (m .number) (at (m .values) 1 0)
 
--- line k after a good first line: its step, or 8 and the column
+-- "`rest`, `held` or `budget`", after a space
+unfoldable pub endingText : Ending → List ℕ
+endingText Rest = bytes " rest\n"
+endingText Held = bytes " held\n"
+endingText Budget = bytes " budget\n"
+
+-- Document 01, "Layouts": "Settling (S-4): the sheet line `q`; after its 0 the program prints the steps done and `rest`, `held` or
+-- `budget`."
+unfoldable pub settledAs : ℕ → Settled → Printed
+settledAs k o = record { text = threeNumbers k (o .refusal) (o .steps) ++ endingText (o .ending); system = o .system }
+
+-- line k after a good first line: its step, a settling run, or 8 and the column
 unfoldable pub lineDone : ℕ → System → Line → Printed
 lineDone k s (Bad column) = record { text = badLine k (meaning (Bad column)); system = s }
 lineDone k s (Step o) = answered k (stepped s o)
+lineDone k s Settle = settledAs k (settled 7936 s)
 
 -- a line, and what is printed after it
 unfoldable pub printedThen : Printed → (System → List ℕ) → List ℕ

@@ -11,13 +11,17 @@ ghost use Rattle.image.specs.Image.{imageWidth, systemIn};
 ghost use Rattle.print.specs.Page.{page, typed};
 ghost use Rattle.sheet.specs.Lines.{linesOf};
 ghost use Rattle.sheet.specs.declared.parse.Opening.the-variants.{Bad as BadFirst};
-ghost use Rattle.run.specs.Output.{lineDone, printedFrom, startedBy, output};
+ghost use Rattle.sheet.specs.declared.parse.Line.the-variants.{Settle};
+ghost use Rattle.run.specs.Output.{endingText, lineDone, printedFrom, startedBy, output};
 use engine::attempt;
 use fresh::put_fresh;
 use print::put_column;
 use print::put_numbered;
 use print::put_text;
+use print::put_three_numbers;
 use print::put_units;
+use settle::Ending;
+use settle::settle;
 use sheet::lines::Found;
 use sheet::parse::Line;
 use sheet::parse::Opening;
@@ -29,8 +33,30 @@ use system::refusal::BAD_LINE;
 // A sheet of more bytes is a long one.
 pub const SHEET_LIMIT: usize = 60_000;
 
-// A line after the first, on an image whose system is sound: its step is done, or it is refused; and
-// what is printed for it.
+// How a settling run ended.
+fn put_ending(out: &mut [u8], at: usize, ending: Ending) -> usize
+    ensures { λ r. ⌜ page (now (out .exit)) r ≡ typed (page (now (out .entry)) at) (endingText ending) ⌝ }
+{
+    match ending {
+        Ending::Rest => put_text(out, at, b" rest\n"),
+        Ending::Held => put_text(out, at, b" held\n"),
+        Ending::Budget => put_text(out, at, b" budget\n"),
+    }
+}
+
+// A settling run, on an image whose system is sound, and what is printed for it.
+fn run_settle(image: &mut [u8], out: &mut [u8], at: usize, number: usize) -> usize
+    requires { ⌜ soundSystem (systemIn (now image)) ≡ true ⌝ }
+    ensures { λ r. ⌜ (page (now (out .exit)) r ≡ typed (page (now (out .entry)) at) (lineDone number (systemIn (now (image .entry))) Settle .text)) × (systemIn (now (image .exit)) ≡ lineDone number (systemIn (now (image .entry))) Settle .system) × (soundSystem (systemIn (now (image .exit))) ≡ true) ⌝ }
+{
+    let run = settle(image);
+    let ending = run.ending;
+    let end = put_three_numbers(out, at, number, run.refusal, run.steps as usize);
+    put_ending(out, end, ending)
+}
+
+// A line after the first, on an image whose system is sound: its step or settling run is done, or it is
+// refused; and what is printed for it.
 fn run_line(image: &mut [u8], out: &mut [u8], at: usize, number: usize, line: Line) -> usize
     requires { ⌜ soundSystem (systemIn (now image)) ≡ true ⌝ }
     ensures { λ r. ⌜ (page (now (out .exit)) r ≡ typed (page (now (out .entry)) at) (lineDone number (systemIn (now (image .entry))) line .text)) × (systemIn (now (image .exit)) ≡ lineDone number (systemIn (now (image .entry))) line .system) × (soundSystem (systemIn (now (image .exit))) ≡ true) ⌝ }
@@ -41,6 +67,7 @@ fn run_line(image: &mut [u8], out: &mut [u8], at: usize, number: usize, line: Li
             let refusal = attempt(image, o);
             put_numbered(out, at, number, refusal)
         }
+        Line::Settle => run_settle(image, out, at, number),
     }
 }
 

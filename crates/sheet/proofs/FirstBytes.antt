@@ -1,12 +1,12 @@
 -- What the lines of a sheet say, by their first byte: what is left of the forms once it is taken off, and how the line ends.
 use Prim.Native.Nat.{ℕ, suc, _+_, _-_, _≤_, _<_}
-use mathlib.Core.Path.{_≡_, refl, sym, _∙_}
+use mathlib.Core.Path.{_≡_, refl, sym, _∙_, ap}
 use mathlib.Core.Bool.{true}
 use mathlib.Core.List.{List, [], _∷_, _++_, map, flatMap}
 use native.Mathlib.Omega.{arith}
 use borrow.Author.Tests.{eq-eqb, ne-eqb, ltb-true}
 use lib.Dec.{leb, ltb}
-use lib.ListN.{length, getD, drop, length-drop}
+use lib.ListN.{length, getD, drop, length-drop, drop-of-length-le}
 use lib.Seq.{drop-drop, getD-drop}
 use Rattle.view.specs.Logic.{pick}
 use Rattle.view.proofs.Laws.{by-number, and-left}
@@ -16,7 +16,7 @@ use Rattle.plan.specs.Cut.{whole, cutAfter}
 use Rattle.print.specs.Text.{bytes}
 use Rattle.sheet.specs.declared.parse.Opening.the-variants.{Bad as BadFirst, Fresh}
 use Rattle.sheet.specs.declared.parse.Line.{Line}
-use Rattle.sheet.specs.declared.parse.Line.the-variants.{Bad, Step}
+use Rattle.sheet.specs.declared.parse.Line.the-variants.{Bad, Step, Settle}
 use Rattle.sheet.specs.declared.parse.Field.{Field}
 use Rattle.sheet.specs.Grammar.{view, Form, form, piece, passed, ended, onward, some, read}
 use Rattle.sheet.specs.Parse.{process, firstForms, laterForms, opened, parsed, fitting, columnFrom, digitAt, viewFrom, cutOrBad, readOn}
@@ -41,13 +41,13 @@ nothing-said [] e = read-from Bad laterForms [] ∙ breaks-off Bad laterForms 0 
 nothing-said (b ∷ bs) e = absurd (omega arith)
 
 -- no form begins so
-pub no-kind : (l : List ℕ) → 0 < length l → (getD l 0 0 ≡ 116 → ⊥) → (getD l 0 0 ≡ 97 → ⊥) → (getD l 0 0 ≡ 114 → ⊥) → (getD l 0 0 ≡ 115 → ⊥) → parsed l ≡ Bad 1
+pub no-kind : (l : List ℕ) → 0 < length l → (getD l 0 0 ≡ 116 → ⊥) → (getD l 0 0 ≡ 97 → ⊥) → (getD l 0 0 ≡ 114 → ⊥) → (getD l 0 0 ≡ 115 → ⊥) → (getD l 0 0 ≡ 113 → ⊥) → parsed l ≡ Bad 1
 unfolding parsed bytes piece pick flatMap passed
-no-kind [] h t a r s = absurd (omega arith)
-no-kind (b ∷ bs) h t a r s =
+no-kind [] h t a r s q = absurd (omega arith)
+no-kind (b ∷ bs) h t a r s q =
     read-from Bad laterForms (b ∷ bs)
     ∙ is-stuck Bad laterForms 0 b bs
-    (rw (ne-eqb 114 b (λ e. r (sym e)), ne-eqb 116 b (λ e. t (sym e)), ne-eqb 97 b (λ e. a (sym e)), ne-eqb 115 b (λ e. s (sym e))))
+    (rw (ne-eqb 114 b (λ e. r (sym e)), ne-eqb 116 b (λ e. t (sym e)), ne-eqb 97 b (λ e. a (sym e)), ne-eqb 115 b (λ e. s (sym e)), ne-eqb 113 b (λ e. q (sym e))))
 
 -- the first byte is c, and leads to these forms
 kind : (l : List ℕ) (c : ℕ) (ys : List (Form Line)) → 0 < length l → getD l 0 0 ≡ c → flatMap (onward c) laterForms ≡ ys → some ys ≡ true
@@ -215,3 +215,24 @@ module _ (l : List ℕ) (r : ℕ) (h : 0 < length l) (e : getD l 0 0 ≡ 115) (i
   pub crash-bad : (r ≡ 0 → ⊥) → parsed l ≡ Bad r
   unfolding bytes allPlain
   crash-bad z = stop-begun ∙ form-differs Bad stopping [] (bytes " P") l 1 r refl (omega arith) is z
+
+-- ---- a settling run
+module _ (l : List ℕ) (h : 0 < length l) (e : getD l 0 0 ≡ 113) where
+  abbrev settling : Form Line
+  settling = form (λ f. Settle) [] []
+
+  settle-begun : parsed l ≡ readFrom Bad (settling ∷ []) 1 (drop 1 l)
+  unfolding bytes piece pick flatMap passed some
+  settle-begun = kind l 113 _ h e refl refl
+
+  pub settle-good : length l ≡ 1 → parsed l ≡ Settle
+  unfolding flatMap ended
+  settle-good one = settle-begun ∙ ap (readFrom Bad (settling ∷ []) 1) (drop-of-length-le l {i = 1} (omega arith)) ∙ ends Bad (settling ∷ []) 1 _ [] refl
+
+  pub settle-bad : (length l ≡ 1 → ⊥) → parsed l ≡ Bad 2
+  unfolding flatMap passed
+  settle-bad more = settle-begun ∙ stuck-after (drop 1 l) (simp length-drop (omega (arith, more)))
+    where
+      stuck-after : (m : List ℕ) → 0 < length m → readFrom Bad (settling ∷ []) 1 m ≡ Bad 2
+      stuck-after [] long = absurd (omega arith)
+      stuck-after (b ∷ bs) long = is-stuck Bad (settling ∷ []) 1 b bs refl

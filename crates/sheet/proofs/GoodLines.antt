@@ -16,7 +16,7 @@ use Rattle.print.specs.Text.{bytes}
 use Rattle.sheet.specs.declared.parse.Opening.{Opening}
 use Rattle.sheet.specs.declared.parse.Opening.the-variants.{Bad as BadFirst, Fresh}
 use Rattle.sheet.specs.declared.parse.Line.{Line}
-use Rattle.sheet.specs.declared.parse.Line.the-variants.{Bad, Step}
+use Rattle.sheet.specs.declared.parse.Line.the-variants.{Bad, Step, Settle}
 use Rattle.sheet.specs.Grammar.{Piece, byte, size, digit, view, more, Form, form, isDigit, rises, valueOf, when, passed, ended, onward, endsAs, followed, readings, some, allowed, column, firstReading, read}
 use Rattle.sheet.specs.Parse.{firstForms, laterForms, opened, parsed, stands, fitting, columnFrom, digitAt}
 use Rattle.sheet.proofs.Forms.{append-none, in-first, in-second, byte-read, view-ends}
@@ -205,6 +205,7 @@ goodFirst (Fresh n) = true
 unfoldable pub good : Line → Bool
 good (Bad k) = false
 good (Step o) = true
+good Settle = true
 
 first-good : (l : List ℕ) → All (Says (λ (x : Opening). goodFirst x ≡ true) l) firstForms
 unfolding goodFirst
@@ -213,7 +214,7 @@ first-good l = also (λ vs w. refl) none
 later-good : (l : List ℕ) → All (Says (λ (x : Line). good x ≡ true) l) laterForms
 unfolding good
 later-good l =
-    also (λ vs w. refl) (also (λ vs w. refl) (also (λ vs w. refl) (also (λ vs w. refl) (also (λ vs w. refl) (also (λ vs w. refl) (also (λ vs w. refl) none))))))
+    also (λ vs w. refl) (also (λ vs w. refl) (also (λ vs w. refl) (also (λ vs w. refl) (also (λ vs w. refl) (also (λ vs w. refl) (also (λ vs w. refl) (also (λ vs w. refl) none)))))))
 
 -- good exactly if allowed
 pub good-if-allowed-first : (l : List ℕ) → goodFirst (opened l) ≡ allowed firstForms l

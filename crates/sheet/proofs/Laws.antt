@@ -100,26 +100,23 @@ end-found s at e = by (ltb at (length s)) refl
     by true h = let here = line-here s at (ltb-true at (length s) h) in absurd (let z : _≡_ {A = ℕ} 0 1 = cc in omega arith)
     by false h = rw (drop-of-length-le s (ltb-false at (length s) h))
 
--- the lines' bytes, an empty line counted as one: it has its line feed
+-- the lines' bytes, each with a line feed
 unfoldable pub weight : List (List ℕ) → ℕ
 weight [] = 0
-weight (l ∷ ls) = max 1 (length l) + weight ls
+weight (l ∷ ls) = suc (length l) + weight ls
 
--- a sheet has at least as many bytes
-pub few-bytes : (s : List ℕ) → weight (linesOf s) ≤ length s
+-- a sheet has as many bytes, or one less: its last line may lack the line feed
+pub few-bytes : (s : List ℕ) → weight (linesOf s) ≤ suc (length s)
 unfolding linesOf withByte inFirst pick weight
 few-bytes [] = omega arith
 few-bytes (b ∷ bs) = by (isFeed b) (linesOf bs) (few-bytes bs)
   where
-    by : (t : Bool) (ls : List (List ℕ)) → weight ls ≤ length bs → weight (pick t ([] ∷ ls) (inFirst b ls)) ≤ suc (length bs)
+    by : (t : Bool) (ls : List (List ℕ)) → weight ls ≤ suc (length bs) → weight (pick t ([] ∷ ls) (inFirst b ls)) ≤ suc (suc (length bs))
     by true ls h = omega arith
     by false [] h = omega arith
-    by false (l ∷ ls) h = omega (arith, most (length l))
-      where
-        most : (n : ℕ) → max 1 (suc n) ≤ suc (max 1 n)
-        most n = omega arith
+    by false (l ∷ ls) h = omega arith
 
--- and so no more lines than bytes
+-- and so no more lines than that
 pub few-lines : (ls : List (List ℕ)) → length ls ≤ weight ls
 unfolding weight
 few-lines [] = omega arith

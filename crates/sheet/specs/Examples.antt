@@ -9,7 +9,7 @@ use Rattle.plan.specs.Cut.{whole, cutAfter}
 use Rattle.sheet.specs.declared.parse.Opening.{Opening}
 use Rattle.sheet.specs.declared.parse.Opening.the-variants.{Bad as BadFirst, Fresh}
 use Rattle.sheet.specs.declared.parse.Line.{Line}
-use Rattle.sheet.specs.declared.parse.Line.the-variants.{Bad, Step}
+use Rattle.sheet.specs.declared.parse.Line.the-variants.{Bad, Step, Settle}
 use Rattle.sheet.specs.Lines.{linesOf}
 use Rattle.sheet.specs.Parse.{process, opened, parsed}
 
@@ -72,6 +72,7 @@ firstSayings =
     ∷ "U 1" says BadFirst 1
     ∷ "x" says BadFirst 1
     ∷ "r 1 1" says BadFirst 1
+    ∷ "q" says BadFirst 1
     -- a fresh system is not cut
     ∷ "u 2 cut 0" says BadFirst 4
     ∷ []
@@ -119,6 +120,7 @@ sayings =
     ∷ "s 3" says crashes 3
     ∷ "s 0" says crashes 0
     ∷ "s 9" says crashes 9
+    ∷ "q" says Settle
     -- cut after any digit
     ∷ "r 1 12 cut 3" says cuts (report 1 3) 3
     ∷ "r 1 - cut 0" says cuts (report 1 0) 0
@@ -127,6 +129,12 @@ sayings =
     ∷ "t 9 0 cut 8" says cuts (receive 9 0) 8
     ∷ "a 1 2 cut 1" says cuts (respond 1 2) 1
     ∷ "a 0 9 cut 9" says cuts (respond 0 9) 9
+    -- a settling run stands alone
+    ∷ "q " says Bad 2
+    ∷ "q cut 0" says Bad 2
+    ∷ "qq" says Bad 2
+    ∷ "q 1" says Bad 2
+    ∷ "q\r" says Bad 2
     -- a view's digits are 1 to 8 and rise
     ∷ "r 1 0" says Bad 5
     ∷ "r 1 9" says Bad 5
@@ -193,7 +201,8 @@ sayings =
     ∷ " " says Bad 1
     ∷ " s 1" says Bad 1
     ∷ "x 1 2" says Bad 1
-    ∷ "q" says Bad 1
+    ∷ "Q" says Bad 1
+    ∷ " q" says Bad 1
     ∷ "S 1" says Bad 1
     ∷ record { line = bytes "s " ++ (200 ∷ []); says = Bad 3 }
     ∷ record { line = bytes "s 1" ++ (0 ∷ []); says = Bad 4 }

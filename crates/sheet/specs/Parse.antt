@@ -1,6 +1,6 @@
 -- What a line of a sheet says. Document 01: "Fields are parted by one space. .. The forms: `u N` first and only first, N 1 to 8;
 -- `r P VIEW`; `t Q P` (take, from Q at P); `a P Q` (P answers Q); `s P`. .. Anything else, an empty line too, is refusal 8". Document 02: "On the sheet, ` cut K` follows
--- the step, K one digit; after `u` or `s` it is a bad line."
+-- the step, K one digit; after `u` or `s` it is a bad line." Document 01, "Layouts": "Settling (S-4): the sheet line `q`".
 use Prim.Native.Nat.{ℕ, suc, _+_}
 use Prim.Native.Char.{code}
 use mathlib.Core.Bool.{Bool, true, false, _&&_}
@@ -19,7 +19,7 @@ use Rattle.print.specs.Text.{bytes}
 use Rattle.sheet.specs.declared.parse.Opening.{Opening}
 use Rattle.sheet.specs.declared.parse.Opening.the-variants.{Bad as BadFirst, Fresh}
 use Rattle.sheet.specs.declared.parse.Line.{Line}
-use Rattle.sheet.specs.declared.parse.Line.the-variants.{Bad, Step}
+use Rattle.sheet.specs.declared.parse.Line.the-variants.{Bad, Step, Settle}
 use Rattle.sheet.specs.declared.parse.Field.{Field}
 use Rattle.sheet.specs.Grammar.{Form, _means_, isCapital, isDigit, rises, valueOf, read}
 
@@ -39,6 +39,7 @@ laterForms =
     ∷ "a P Q" means (λ f. Step (whole (Respond (process (f 0)) (process (f 1)))))
     ∷ "a P Q cut K" means (λ f. Step (cutAfter (Respond (process (f 0)) (process (f 1))) (f 2)))
     ∷ "s P" means (λ f. Step (whole (Crash (process (f 0)))))
+    ∷ "q" means (λ f. Settle)
     ∷ []
 
 -- what the first line says, and what any other
@@ -71,6 +72,7 @@ countIn (After k) = k ∷ []
 unfoldable pub meaning : Line → Meaning
 meaning (Bad column) = record { number = 8; values = column ∷ [] }
 meaning (Step o) = record { number = 0; values = valuesOf (o .action) ++ countIn (o .cut) }
+meaning Settle = record { number = 0; values = [] }
 
 -- ---- how the code goes through a line: a form without a view, a view, and what may follow the fields of a step
 -- byte b stands where a form has byte f

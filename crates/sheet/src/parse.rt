@@ -17,11 +17,13 @@ pub enum Opening {
     Fresh(u8),
 }
 
-// Any other line: `r P VIEW`, `t Q P` and `a P Q`, each alone or with ` cut K`, and `s P`; or bad, from
-// this column on.
+// Any other line: `r P VIEW`, `t Q P` and `a P Q`, each alone or with ` cut K`, `s P` and `q`; or bad,
+// from this column on.
 pub enum Line {
     Bad(usize),
     Step(Step),
+    // The settling run.
+    Settle,
 }
 
 // Byte b may stand where a form has byte f. No form that is asked about here has a view.
@@ -231,6 +233,18 @@ fn parse_crash(l: &[u8]) -> Line
     }
 }
 
+// What a line says that begins with `q`.
+fn parse_settle(l: &[u8]) -> Line
+    requires { ⌜ (0 < length (now l)) × (getD (now l) 0 0 ≡ 113) ⌝ }
+    ensures { λ r. ⌜ r ≡ parsed (now (l .entry)) ⌝ }
+{
+    if l.len() == 1 {
+        Line::Settle
+    } else {
+        Line::Bad(2)
+    }
+}
+
 // What a line after the first says: its first byte chooses the form.
 pub fn parse(l: &[u8]) -> Line
     ensures { λ r. ⌜ r ≡ parsed (now (l .entry)) ⌝ }
@@ -247,6 +261,8 @@ pub fn parse(l: &[u8]) -> Line
         parse_report(l)
     } else if b == b's' {
         parse_crash(l)
+    } else if b == b'q' {
+        parse_settle(l)
     } else {
         Line::Bad(1)
     }

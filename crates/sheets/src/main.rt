@@ -88,6 +88,7 @@ fn examples() {
     judge(b"retry");
     judge(b"goes_on_without");
     judge(b"mistakes");
+    judge(b"settle");
 }
 
 // Each refusal, and the lowest where several apply.
@@ -126,16 +127,18 @@ fn forms() {
     judge(b"first_view");
     judge(b"first_cr");
     judge(b"first_no_lf");
+    judge(b"first_settle");
     judge(b"bad_first");
     judge(b"later_u");
     judge(b"digits");
     judge(b"bad_views");
     judge(b"bad_forms");
     judge(b"columns");
+    judge(b"settle_bad");
     judge(b"odd_bytes");
 }
 
-// Stops, cut steps, late answers, full lines, and agreements.
+// Stops, cut steps, late answers, full lines, agreements, and settling runs.
 fn runs() {
     judge(b"second_stop");
     judge(b"late_retry");
@@ -149,6 +152,10 @@ fn runs() {
     judge(b"cut");
     judge(b"eight_units");
     judge(b"apart");
+    judge(b"settle_two");
+    judge(b"settle_66");
+    judge(b"settle_held");
+    judge(b"settle_order");
 }
 
 fn main() {

@@ -3,7 +3,7 @@
 use Prim.Native.Nat.{ℕ, _≤_}
 use mathlib.Core.Path.{_≡_, refl, sym, _∙_, ap, subst}
 use mathlib.Core.Bool.{Bool, true, false, _&&_, _||_, not}
-use mathlib.Core.List.{List, [], _∷_}
+use mathlib.Core.List.{List, [], _∷_, _++_}
 use mathlib.Core.Logic.{_⊎_, inl, inr, ⊎-elim}
 use native.Mathlib.Omega.{arith}
 use borrow.Author.Tests.{le-leb}
@@ -11,7 +11,7 @@ use lib.Dec.{leb, ltb, eqb}
 use Rattle.view.specs.declared.ProcessId.{ProcessId}
 use Rattle.view.specs.Logic.{pick, isOneOf}
 use Rattle.view.specs.View.{has, within, subset, leastOf, countOf}
-use Rattle.view.proofs.Laws.{by-pick, one-of, and-left, and-right, or-right, true-is-not-false}
+use Rattle.view.proofs.Laws.{by-pick, each-keeps, one-of, and-left, and-right, or-right, true-is-not-false}
 use Rattle.channel.specs.declared.Message.{Message}
 use Rattle.channel.specs.declared.Message.the-variants.{Propose, Retry, Acc, Commit}
 use Rattle.channel.specs.Channel.{frontOf, waiting}
@@ -22,7 +22,7 @@ use Rattle.system.specs.declared.Process.{Process}
 use Rattle.system.specs.declared.System.{System}
 use Rattle.system.specs.declared.Outcome.{Outcome}
 use Rattle.system.specs.Process.{pendingAt}
-use Rattle.system.specs.System.{processAt, variablesAt, channelAt, roomFor, refused}
+use Rattle.system.specs.System.{processAt, variablesAt, withProcess, channelAt, withChannel, sent, sentIfNamed, broadcasted, roomFor, refused}
 use Rattle.sound.specs.Sound.{soundPending, soundSystem}
 use Rattle.plan.specs.declared.Plan.{Plan}
 use Rattle.plan.specs.declared.Scope.{Scope}
@@ -31,10 +31,10 @@ use Rattle.plan.specs.declared.Action.the-variants.{Report, Receive, Respond, C
 use Rattle.plan.specs.declared.Cut.{Cut}
 use Rattle.plan.specs.declared.Cut.the-variants.{Whole, After}
 use Rattle.plan.specs.declared.Step.{Step}
-use Rattle.plan.specs.Plan.{reportPlan, committingPlan, messagePlan, receivePlan, respondPlan}
+use Rattle.plan.specs.Plan.{changed, reportPlan, committingPlan, messagePlan, receivePlan, respondPlan}
 use Rattle.plan.specs.Scope.{scopeOf}
 use Rattle.plan.specs.Cut.{cutShort, cutBy}
-use Rattle.step.specs.Step.{planOf, takenOff, permitted, carriedOut, attempted, stepped, Event, does, happened, ran}
+use Rattle.step.specs.Step.{planOf, takenOff, emptiedFrom, crashedAt, crashedIf, effected, permitted, carriedOut, attempted, stepped, Event, does, happened, ran}
 use Rattle.step.proofs.Soundness.{Sound, Valid, sound-facts, proposal-facts}
 use Rattle.step.proofs.Cases.{Transition, outline}
 use Rattle.step.proofs.Inversion.{sound-stepped, done-or-refused, by-outcome}
@@ -43,6 +43,41 @@ use Rattle.step.proofs.SoundSteps.{event-valid}
 -- demand 1, of every system and every step: 0, or the same system
 pub zero-or-same : (s : System) (o : Step) → (stepped s o .refusal ≡ 0) ⊎ (stepped s o .system ≡ s)
 zero-or-same s o = ⊎-elim inl (λ same. inr (ap (λ (a : Outcome). a .system) same)) (done-or-refused s o)
+
+-- ---- the number of processes stays
+abbrev Sized : ℕ → System → Type 0
+Sized n s = s .n ≡ n
+
+effected-size : (n : ℕ) (t : System) (p : ℕ) (a : Plan) → Sized n t → Sized n (effected t p a)
+unfolding effected crashedIf crashedAt emptiedFrom broadcasted sentIfNamed sent withProcess withChannel
+effected-size n t p a e =
+    let told =
+    each-keeps (Sized n) 8 (sentIfNamed p (a .addressees) (a .message))
+    (λ k l u x h. by-pick (Sized n) (has (a .addressees) k) _ _ (λ b. by-pick (Sized n) (variablesAt x k .crashed) _ _ (λ c. h) (λ c. h)) (λ b. h))
+    (withProcess t p (changed (processAt t p) (a .change))) e in
+    by-pick (Sized n) (a .stops) _ _ (λ b. each-keeps (Sized n) 8 (emptiedFrom p) (λ k l u x h. h) _ told) (λ b. told)
+
+pub size-kept : (s : System) (o : Step) → stepped s o .system .n ≡ s .n
+unfolding stepped attempted permitted carriedOut takenOff withChannel
+size-kept s o =
+    let c = scopeOf (o .action) in
+    let a = cutBy (o .cut) (planOf s (o .action)) in
+    let Kept : Outcome → Type 0 = λ x. Sized (s .n) (x .system) in
+    by-pick Kept (soundSystem s) _ _
+    (λ e.
+    by-pick Kept (isOneOf (s .n) (c .actor .0) && isOneOf (s .n) (c .partner .0)) _ _
+    (λ f.
+    by-pick Kept (variablesAt s (c .actor .0) .crashed) _ _
+    (λ g. refl)
+    (λ g.
+    by-pick Kept (eqb (a .refusal) 0) _ _
+    (λ h.
+    by-pick Kept (roomFor (takenOff s c) (c .actor .0) (a .addressees)) _ _
+    (λ i. effected-size (s .n) (takenOff s c) (c .actor .0) a (by-pick (Sized (s .n)) (c .takes) _ _ (λ j. refl) (λ j. refl)))
+    (λ i. refl))
+    (λ h. refl)))
+    (λ f. refl))
+    (λ e. refl)
 
 -- ---- every number is one of the table's, and 1 is given for no sound system
 -- the number stands in the list
@@ -160,6 +195,12 @@ number-listed s o =
     by-pick (λ (a : Outcome). among answers (a .refusal) ≡ true) (soundSystem s) _ _
     (λ e. or-right (eqb (attempted s o .refusal) 1) (among soundAnswers (attempted s o .refusal)) (attempted-told s (sound-facts s e) o))
     (λ e. refl)
+
+-- ---- lists of events, one after the other
+pub ran-append : (s : System) (es fs : List Event) → ran s (es ++ fs) ≡ ran (ran s es) fs
+unfolding ran
+ran-append s [] fs = refl
+ran-append s (e ∷ es) fs = ran-append (happened s e .system) es fs
 
 -- ---- stopped for good
 stays-stopped : {s t : System} {o : Action} → Transition s t o → (k : ℕ) → variablesAt s k .crashed ≡ true → variablesAt t k .crashed ≡ true

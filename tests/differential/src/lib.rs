@@ -7,6 +7,7 @@ pub mod lines;
 pub mod litter;
 pub mod poised;
 pub mod rival;
+pub mod settled;
 pub mod ways;
 
 use reference::{Action, Step};

@@ -32,7 +32,7 @@ pub const LATER: &[Kind] = &[
     ("8 size once more", &[(b"u #", 1), (b"u 2", 1)]),
     (
         "8 no such letter",
-        &[(b"x # #", 1), (b"R # 1", 1), (b"T # #", 1), (b"q", 1), (b"# # #", 1), (b"- 1", 1)],
+        &[(b"x # #", 1), (b"R # 1", 1), (b"T # #", 1), (b"Q", 1), (b"# # #", 1), (b"- 1", 1)],
     ),
     ("8 breaks off in a report", &[(b"r", 2), (b"r ", 3), (b"r #", 4), (b"r # ", 5)]),
     ("8 breaks off in a take", &[(b"t", 2), (b"t ", 3), (b"t #", 4), (b"t # ", 5)]),
@@ -109,6 +109,12 @@ pub const LATER: &[Kind] = &[
     ),
     ("8 cut of a stop", &[(b"s # cut #", 4)]),
     (
+        "8 more after a settling run",
+        &[(b"q ", 2), (b"q #", 2), (b"q # #", 2), (b"qq", 2), (b"q\r", 2), (b"q\t", 2), (b"q#", 2)],
+    ),
+    ("8 cut of a settling run", &[(b"q cut #", 2), (b"qcut #", 2)]),
+    ("8 space before a settling run", &[(b" q", 1)]),
+    (
         "8 cut parted otherwise",
         &[
             (b"t # #  cut #", 7),
@@ -130,6 +136,7 @@ pub const FIRST: &[Kind] = &[
         &[(b"u 2 cut #", 4), (b"u 2 ", 4), (b"u 2#", 4), (b"u 2 #", 4), (b"u 2\r", 4)],
     ),
     ("8 first line, a step", &[(b"r # 1", 1), (b"t # #", 1), (b"a # #", 1), (b"s #", 1)]),
+    ("8 first line, a settling run", &[(b"q", 1)]),
     (
         "8 first line, no form",
         &[
@@ -156,7 +163,12 @@ pub fn bad(dice: &mut Dice, kinds: &[Kind]) -> (&'static str, Vec<u8>, usize) {
     (name, line, column)
 }
 
-/// Any bytes but line feeds: hardly ever a line of some form.
+/// Any bytes but line feeds: hardly ever a line of some form, and never the shortest, `q`.
 pub fn any_bytes(dice: &mut Dice) -> Vec<u8> {
-    (0..dice.roll(12)).map(|_| dice.byte()).filter(|&byte| byte != b'\n').collect()
+    let mut bytes: Vec<u8> =
+        (0..dice.roll(12)).map(|_| dice.byte()).filter(|&byte| byte != b'\n').collect();
+    if bytes == b"q" {
+        bytes.push(dice.byte() | 0x80);
+    }
+    bytes
 }

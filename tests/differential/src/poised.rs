@@ -89,7 +89,8 @@ fn crowd(dice: &mut Dice, system: &mut System, p: ProcessId) {
     }
 }
 
-fn fill(channel: &mut Channel, message: Message) {
+/// Fills a line with a message.
+pub fn fill(channel: &mut Channel, message: Message) {
     channel.resize(CAPACITY, message);
 }
 

@@ -1,6 +1,7 @@
 //! The trainee's sheet: its lines, its run and what is printed.
 
 use crate::refusal::{number, Outcome, Refusal};
+use crate::settle::{settle, Ending, Settling};
 use crate::step::{Action, Step};
 use crate::system::{fresh, System};
 use crate::view::{ProcessId, View};
@@ -31,7 +32,8 @@ fn printed(sheet: &[u8]) -> String {
             let (_, mut system) = fresh(*n);
             for (line, line_number) in lines.iter().zip(1..).skip(1) {
                 out += &match later_lines().get(*line) {
-                    Some(step) => outcome_line(line_number, step.run(&mut system)),
+                    Some(Later::Step(step)) => outcome_line(line_number, step.run(&mut system)),
+                    Some(Later::Settle) => settling_line(line_number, settle(&mut system)),
                     None => bad_line(line_number, column(later_lines(), line)),
                 };
             }
@@ -67,20 +69,28 @@ fn first_lines() -> &'static BTreeMap<Vec<u8>, u8> {
     LINES.get_or_init(|| (1..=8).map(|n| (format!("u {n}").into_bytes(), n)).collect())
 }
 
+/// What a line after the first says.
+enum Later {
+    Step(Step),
+    Settle,
+}
+
 /// Every line that is allowed later: "`r P VIEW`; `t Q P` (take, from Q at P);
 /// `a P Q` (P answers Q); `s P`. P and Q are one digit." S-2: "` cut K` follows
-/// the step, K one digit; after `u` or `s` it is a bad line."
-fn later_lines() -> &'static BTreeMap<Vec<u8>, Step> {
-    static LINES: OnceLock<BTreeMap<Vec<u8>, Step>> = OnceLock::new();
+/// the step, K one digit; after `u` or `s` it is a bad line." "Settling (S-4):
+/// the sheet line `q`", with nothing after it.
+fn later_lines() -> &'static BTreeMap<Vec<u8>, Later> {
+    static LINES: OnceLock<BTreeMap<Vec<u8>, Later>> = OnceLock::new();
     LINES.get_or_init(|| {
-        let mut lines = BTreeMap::new();
+        let mut lines = BTreeMap::from([(b"q".to_vec(), Later::Settle)]);
         let mut allow = |line: String, action: Action| {
             if !matches!(action, Action::Crash { .. }) {
                 for k in 0..=9 {
-                    lines.insert(format!("{line} cut {k}").into_bytes(), action.cut(k));
+                    let cut = Later::Step(action.cut(k));
+                    lines.insert(format!("{line} cut {k}").into_bytes(), cut);
                 }
             }
-            lines.insert(line.into_bytes(), action.into());
+            lines.insert(line.into_bytes(), Later::Step(action.into()));
         };
         for p in (0..=9).map(ProcessId) {
             for view in (0..=u8::MAX).map(View) {
@@ -120,6 +130,17 @@ fn column<T>(allowed: &BTreeMap<Vec<u8>, T>, line: &[u8]) -> usize {
 /// "its line number in the sheet, a space and the refusal number or 0"
 fn outcome_line(line_number: usize, outcome: Outcome) -> String {
     format!("{line_number} {}\n", number(outcome))
+}
+
+/// "after its 0 the program prints the steps done and `rest`, `held` or
+/// `budget`"
+fn settling_line(line_number: usize, settling: Settling) -> String {
+    let word = match settling.ending {
+        Ending::Rest => "rest",
+        Ending::Held => "held",
+        Ending::Budget => "budget",
+    };
+    format!("{line_number} {} {} {word}\n", number(settling.outcome), settling.steps)
 }
 
 /// S-1: "The column stands after the 8 and a space."

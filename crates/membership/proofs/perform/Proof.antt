@@ -10,8 +10,8 @@ returns c =
     let step = c .before .before .before in
     let code = step .before .before .before in
     let made = code .before .before in
-    between _ _ (made .image-buffer .result) _ _ _ _ (value-lengths _ _ (made .before .good .0)) (made .image-buffer .ensures) (code .encode .kept .1 .0) (step .perform .kept .0)
-    (code .encode .ensures) (step .perform .ensures) (c .decode .ensures)
+    between _ (made .image-buffer .result) _ _ _ (value-lengths _ _ (made .before .good .0)) (made .image-buffer .ensures) (code .encode .kept .1 .0) (step .perform .kept .0)
+    (code .encode .ensures) (c .decode .ensures) _ _ (step .perform .ensures)
 
 pub perform-spec : {M : Type 1} → statement M
 perform-spec =

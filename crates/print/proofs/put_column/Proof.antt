@@ -1,4 +1,4 @@
--- `print::put_column`: the numbers, a space, the column, and a line feed.
+-- `print::put_column`: the numbers, and a line feed.
 use borrow.Author.Needs.{needs}
 use Rattle.print.specs.Text.{bytes}
 use Rattle.print.specs.Print.{columnLine}
@@ -10,20 +10,13 @@ returns : tie.Need-returns
 unfolding columnLine bytes
 returns c =
     let d = c .before .before in
-    let k = d .before .before .before .before .before in
-    let s = k .before .before .before .before in
-    let n = s .before .before .before .before .before in
-    let t2 = in-turn _ _ _ _ _ (n .put-numbers .ensures) (s .put-text .ensures) in
-    let t3 = in-turn _ _ _ _ _ t2 (k .put-decimal .ensures) in
-    in-turn _ _ _ _ _ t3 (d .put-text2 .ensures)
+    let n = d .before .before .before .before .before in
+    in-turn _ _ _ _ _ (n .put-three-numbers .ensures) (d .put-text .ensures)
 
 pub put-column-spec : {M : Type 1} → statement M
 put-column-spec =
     tie.close
     (tie.spec
-    (λ c κs. search needs)
-    (λ c. search needs)
-    (λ c κs. search needs)
     (λ c κs. search needs)
     (λ c. search needs)
     (λ c κs. search needs)

@@ -23,6 +23,9 @@ returns-2 c =
     let done = t .attempt .ensures .steps sound .outcome in
     (rw (e, ← done) (c .before .before .put-numbered .ensures), rw (e, ← done), t .attempt .ensures .stays sound)
 
+returns-3 : tie.Need-returns-3
+returns-3 c = rw (c .before .before .before .before .before .before .before .enum-told .given .1) (c .before .before .before .before .run-settle .ensures)
+
 pub run-line-spec : {M : Type 1} → statement M
 run-line-spec =
     tie.close
@@ -33,7 +36,12 @@ run-line-spec =
     (λ c κs. search needs)
     (λ c κs. search needs)
     (λ c. search needs)
+    (λ c κs. search needs)
+    (λ c. search needs)
     returns
     (λ c. search needs)
     (λ c. search needs)
-    returns-2)
+    returns-2
+    (λ c. search needs)
+    (λ c. search needs)
+    returns-3)

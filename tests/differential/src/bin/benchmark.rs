@@ -1,5 +1,5 @@
 //! The proved library and its rival side by side, in one run: whole sheets, single steps through the
-//! image, and lists of steps. Nothing is judged.
+//! image, lists of steps, and settling runs. Nothing is judged.
 
 use differential::dice::Dice;
 use differential::lines::line;
@@ -7,7 +7,7 @@ use differential::our_step;
 use differential::rival::{self, rival_step};
 use lobstercreel as ours;
 use reference::image::{decode, encode, Image};
-use reference::{Action, ProcessId, Step, System};
+use reference::{Action, ProcessId, Step, System, View};
 use std::hint::black_box;
 use std::time::{Duration, Instant};
 
@@ -28,7 +28,8 @@ overwritten with zeros; the images, copied anew, one for each step. Not cleared:
 caches, which are warm on both sides.
 Inside the clock, on both sides: reading the sheet and writing its output; or reading the image,
 the soundness test, the step, and writing the image if the step is done. Of a list of steps: the
-image read, tested and written once, and each step's number.
+image read, tested and written once, and each step's number. Of a settling run: the same, what is
+tried in vain and its ending.
 refused: lines with another number than 0. quiet: reports that only change a local view.
 A history ends at position 32: after some hundred lines a sheet has little else left.
 ";
@@ -54,6 +55,18 @@ fn main() {
     for n in [1, 2, 4, 8] {
         list(n);
     }
+    println!();
+    println!(
+        "settling runs of 8 processes{:>18} {:>10} {:>10}  ratio",
+        "steps", "ours, us", "rival, us"
+    );
+    let eight = |p: ProcessId, view: View| vec![Action::Report { p, view }; 8];
+    let all = View::first(8);
+    let not_below = |p: ProcessId| View(all.0 >> (p.0 - 1) << (p.0 - 1));
+    settling("1 has proposed all, 8 times", &eight(ProcessId(1), all));
+    let each: Vec<Action> = all.members().flat_map(|p| eight(p, not_below(p))).collect();
+    settling("each p has proposed p to 8, 8 times", &each);
+    settling("fresh, nothing to do", &[]);
 }
 
 fn heading(what: &str) {
@@ -225,6 +238,40 @@ fn steps(n: u8, done: bool) {
         },
     );
     row(format!("n {n}, {}", if done { "done" } else { "refused with 10" }), chosen.len(), time);
+}
+
+/// One settling run of 8 processes after some steps.
+fn settling(what: &str, before: &[Action]) {
+    const TIMES: usize = 20;
+    let mut system = reference::fresh(8).1;
+    before.iter().for_each(|step| assert_eq!(step.run(&mut system), Ok(()), "{step:?}"));
+    let start = encode(&system);
+    let wanted = reference::settle(&mut system);
+    let (mut ours_after, mut rivals_after) = (start, start);
+    let ours = ours::settle(&mut ours_after).expect("a sound image");
+    let (number, steps, _) = rival::settle_on(&mut rivals_after);
+    assert!(number == 0 && usize::from(steps) == wanted.steps);
+    assert!(
+        ours.steps == steps && decode(&ours_after) == system && decode(&rivals_after) == system
+    );
+    let images = || vec![start; TIMES];
+    let (ours, rival) = best(
+        images,
+        |images| {
+            for image in images {
+                let _ = black_box(ours::settle(image));
+            }
+        },
+        images,
+        |images| {
+            for image in images {
+                black_box(rival::settle_on(image));
+            }
+        },
+    );
+    let each = |time: Duration| 1e6 * time.as_secs_f64() / TIMES as f64;
+    let ratio = each(ours) / each(rival);
+    println!("{what:<37} {steps:>8} {:>10.1} {:>10.1} {ratio:>6.2}", each(ours), each(rival));
 }
 
 /// One call with a list of steps, from a fresh image.

@@ -9,15 +9,19 @@ use differential::litter::litter;
 use differential::our_step;
 use differential::poised::{disturb, poise};
 use differential::rival;
+use differential::settled::{crowd, jam, race, rivals, settling_way, Turn};
 use differential::ways::{way, By, Ways, AT_LEAST};
 use lobstercreel as ours;
 use reference::image::{decode, encode, Image, SIZE};
-use reference::{number, sound, Action, GroupIndex, ProcessId, Step, System, SHEET_LIMIT};
+use reference::{
+    number, sound, Action, Ending, GroupIndex, ProcessId, Settling, Step, System, SHEET_LIMIT,
+};
 
 /// How many of each part, with the seeds 0 to one less.
 const RUNS: u64 = 4_000;
 const HANDED_IN: u64 = 30_000;
 const DAMAGED: u64 = 500;
+const SETTLED: u64 = 6_000;
 const SHEETS: u64 = 12_000;
 
 /// A sheet of so many bytes is counted as a long one that is run.
@@ -29,12 +33,14 @@ const MARGIN: usize = 64;
 
 fn main() {
     println!("seeds: runs 0 to {}, images handed in 0 to {}", RUNS - 1, HANDED_IN - 1);
-    println!("       damaged images 0 to {} each, sheets 0 to {}", DAMAGED - 1, SHEETS - 1);
+    println!("       damaged images 0 to {} each, settled 0 to {}", DAMAGED - 1, SETTLED - 1);
+    println!("       sheets 0 to {}", SHEETS - 1);
     let mut ways = Ways::default();
     fresh_systems(&mut ways);
     (0..RUNS).for_each(|seed| run(seed, &mut ways));
     (0..HANDED_IN).for_each(|seed| handed_in(seed, &mut ways));
     (0..DAMAGED).for_each(|seed| damaged(seed, &mut ways));
+    (0..SETTLED).for_each(|seed| settled(seed, &mut ways));
     wrong_lengths(&mut ways);
     (0..SHEETS).for_each(|seed| sheet(seed, &mut ways));
     every_room(&mut ways);
@@ -92,6 +98,105 @@ fn judge(
     assert_eq!(number, wanted.0, "seed {seed}: {who}, {step:?}");
     let right = if number == 0 { decode(&after) == wanted.1 } else { after == *before };
     assert!(right, "seed {seed}: {who} left another image, {step:?}");
+}
+
+/// Settles the image, which lies between bytes that must stay: the number, the steps and the ending.
+fn our_settling(image: &mut Image) -> (u8, [u16; 2]) {
+    let mut memory = [GUARD; SIZE + 2 * MARGIN];
+    let lent = &mut memory[MARGIN..MARGIN + SIZE];
+    lent.copy_from_slice(image);
+    let mut told = [u16::MAX; 2];
+    let number = our_number(ours::settle_into(lent, &mut told));
+    let result = ours::settle(&mut image.clone()).map(|told| (told.steps, told.ending));
+    image.copy_from_slice(lent);
+    assert!(memory[..MARGIN].iter().chain(&memory[MARGIN + SIZE..]).all(|&byte| byte == GUARD));
+    // The wrapper's words are those numbers.
+    let word = [ours::Ending::Rest, ours::Ending::Held, ours::Ending::Budget][usize::from(told[1])];
+    let wanted = if number == 0 { Ok((told[0], word)) } else { Err(ours::Refusal(number)) };
+    assert_eq!(result, wanted);
+    (number, told)
+}
+
+/// Settles the image; what the library and the rival answer and leave is what the papers say.
+fn compare_settling(image: &mut Image, seed: u64, ways: &mut Ways) {
+    let before = *image;
+    let mut wanted = decode(image);
+    let settling = reference::settle(&mut wanted);
+    ways.count(
+        By::Image,
+        match settling.outcome {
+            Ok(()) => settling_way(&decode(image), settling, &wanted),
+            Err(_) => "1 settling",
+        },
+    );
+    let Settling { outcome, steps, ending } = settling;
+    let ending_number = match ending {
+        Ending::Rest => 0,
+        Ending::Held => 1,
+        Ending::Budget => 2,
+    };
+    let wanted_numbers = (number(outcome), [steps as u16, ending_number]);
+    let right = |after: &Image| match steps {
+        0 => *after == before,
+        _ => decode(after) == wanted,
+    };
+    assert_eq!(our_settling(image), wanted_numbers, "seed {seed}: the library settles");
+    assert!(right(image), "seed {seed}: the library settles and leaves another image");
+    let mut rivals = before;
+    let (number, steps, ending) = rival::settle_on(&mut rivals);
+    let told = [steps, ending as u16];
+    assert_eq!((number, told), wanted_numbers, "seed {seed}: the rival settles");
+    assert!(right(&rivals), "seed {seed}: the rival settles and leaves another image");
+}
+
+/// Systems of all sorts, settled again and again with some steps between.
+fn settled(seed: u64, ways: &mut Ways) {
+    let mut dice = Dice::new(seed ^ 0x5e77_1e);
+    let n = dice.one_of(8).0;
+    let mut system = match dice.roll(6) {
+        0 => turned(n, race(&mut dice, n)),
+        1 => turned(n, crowd(&mut dice, n)),
+        2 => turned(n, dice.opening(n).into_iter().map(Turn::Step).collect()),
+        _ => reached(&mut dice, n),
+    };
+    match dice.roll(6) {
+        0 if n > 1 => jam(&mut dice, &mut system),
+        1 => rivals(&mut dice, &mut system),
+        2 => drop(poise(&mut dice, &mut system)),
+        3 => (0..dice.roll(8)).for_each(|_| disturb(&mut dice, &mut system)),
+        _ => (),
+    }
+    let mut image = encode(&system);
+    if dice.one_in(40) {
+        image[dice.roll(SIZE)] = dice.byte();
+    }
+    let mix = dice.mix(n);
+    for _ in 0..=dice.roll(3) {
+        if dice.one_in(4) {
+            litter(&mut dice, &mut image);
+            ways.count(By::Image, "settling among stray bytes");
+        }
+        compare_settling(&mut image, seed, ways);
+        if !sound(&decode(&image)) {
+            return;
+        }
+        for _ in 0..dice.roll(12) {
+            let step = dice.likely_step(&decode(&image), mix);
+            compare(&mut image, step, seed, ways);
+        }
+    }
+}
+
+/// The system after these turns from a fresh one.
+fn turned(n: u8, turns: Vec<Turn>) -> System {
+    let mut system = reference::fresh(n).1;
+    for turn in turns {
+        match turn {
+            Turn::Step(step) => drop(step.run(&mut system)),
+            Turn::Settle => drop(reference::settle(&mut system)),
+        }
+    }
+    system
 }
 
 fn fresh_systems(ways: &mut Ways) {
@@ -273,6 +378,7 @@ fn refused_with_1(dice: &mut Dice, image: Image, seed: u64, name: &'static str, 
         let step = dice.any_step(8);
         assert_eq!(compare(&mut image.clone(), step, seed, ways), 1, "seed {seed}: {name}");
     }
+    compare_settling(&mut image.clone(), seed, ways);
     ways.count(By::Image, name);
 }
 
@@ -293,6 +399,9 @@ fn wrong_lengths(ways: &mut Ways) {
             assert_eq!(our_number(ours::step(image, our_step(step.into()))), 1, "length {length}");
         }
         assert_eq!(our_number(ours::fresh(image, 3)), 1, "length {length}");
+        let mut told = [u16::MAX; 2];
+        assert_eq!(our_number(ours::settle_into(image, &mut told)), 1, "length {length}");
+        assert_eq!(told, [0, 1], "length {length}");
         assert!(memory == before, "length {length}");
         ways.count(By::Image, "1 wrong length");
     }
@@ -317,6 +426,19 @@ impl Sheet {
     /// A bad line with its column.
     fn add_bad(&mut self, line: &[u8], way: &'static str, column: usize) {
         self.add(line, way, format!("8 {column}"));
+    }
+
+    /// The line of a settling run, which the system makes too.
+    fn add_settling(&mut self, system: &mut System) {
+        let before = system.clone();
+        let settling = reference::settle(system);
+        let word = match settling.ending {
+            Ending::Rest => "rest",
+            Ending::Held => "held",
+            Ending::Budget => "budget",
+        };
+        let told = format!("{} {} {word}", number(settling.outcome), settling.steps);
+        self.add(b"q", settling_way(&before, settling, system), told);
     }
 
     /// The line of a step, which the system makes too.
@@ -359,8 +481,23 @@ fn written(dice: &mut Dice, n: u8) -> Sheet {
                 sheet.add_step(step, &mut system);
             }
         }
+        // One sheet of three has settling runs.
+        let settles = dice.one_in(3) && lines < 6_000;
+        if settles && dice.one_in(2) {
+            let turns = if dice.one_in(3) { crowd(dice, n) } else { race(dice, n) };
+            for turn in turns.into_iter().chain([Turn::Settle]) {
+                match turn {
+                    Turn::Step(step) => sheet.add_step(step, &mut system),
+                    Turn::Settle => sheet.add_settling(&mut system),
+                }
+            }
+        }
         let mix = dice.mix(n);
         for _ in 0..lines {
+            if settles && dice.one_in(30) {
+                sheet.add_settling(&mut system);
+                continue;
+            }
             match dice.roll(120) {
                 // Their column is not known here, but the reference's.
                 0 => sheet.add(&any_bytes(dice), "8 any bytes", "8 ?".into()),

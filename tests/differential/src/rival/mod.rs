@@ -10,6 +10,7 @@ mod channel;
 mod message;
 mod process;
 mod refusal;
+mod settle;
 mod sheet;
 mod soundness;
 mod step;
@@ -17,6 +18,7 @@ mod system;
 mod view;
 
 pub use refusal::number;
+pub use settle::Ending;
 pub use sheet::run_sheet_onto;
 use soundness::sound;
 pub use step::{Action, Step};
@@ -50,6 +52,20 @@ pub fn steps_on(image: &mut image::Image, steps: &[Step], numbers: &mut [u8]) {
                 *answer = number(step.run_on_sound(&mut system));
             }
             *image = image::encode(&system);
+        }
+    }
+}
+
+/// Settles the system of an image; answers the number, the steps done and how it ended.
+pub fn settle_on(image: &mut image::Image) -> (u8, u16, Ending) {
+    match image::decode(image).filter(sound) {
+        None => (1, 0, Ending::Held),
+        Some(mut system) => {
+            let (steps, ending) = settle::settle(&mut system);
+            if steps > 0 {
+                *image = image::encode(&system);
+            }
+            (0, steps, ending)
         }
     }
 }

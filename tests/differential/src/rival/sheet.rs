@@ -1,6 +1,7 @@
 //! The trainee's sheet: its lines, its run and what is printed.
 
 use super::refusal::{number, Outcome, Refusal};
+use super::settle::{settle, Ending};
 use super::step::{Action, Step};
 use super::system::System;
 use super::view::{ProcessId, View};
@@ -25,6 +26,9 @@ pub fn run_sheet_onto(out: &mut Vec<u8>, sheet: &[u8]) {
             for (line, line_number) in lines {
                 match parse_step(line) {
                     Some(step) => print_outcome(out, line_number, step.run_on_sound(&mut system)),
+                    None if line == b"q" => {
+                        print_settled(out, line_number, settle(&mut system));
+                    }
                     None => print_bad(out, line_number, column(line)),
                 }
             }
@@ -122,6 +126,7 @@ fn column(line: &[u8]) -> u32 {
         Some(b't') => (b"t P P", b" cut P"),
         Some(b'a') => (b"a P P", b" cut P"),
         Some(b's') => (b"s P", b""),
+        Some(b'q') => (b"q", b""),
         _ => return 1,
     };
     let mut at = fitting(line, form) as usize;
@@ -155,6 +160,17 @@ fn print_outcome(out: &mut Vec<u8>, line_number: u32, outcome: Outcome) {
     out.push(b' ');
     print_number(out, number(outcome).into());
     out.push(b'\n');
+}
+
+fn print_settled(out: &mut Vec<u8>, line_number: u32, (steps, ending): (u16, Ending)) {
+    print_number(out, line_number);
+    out.extend(b" 0 ");
+    print_number(out, steps.into());
+    out.extend_from_slice(match ending {
+        Ending::Rest => b" rest\n",
+        Ending::Held => b" held\n",
+        Ending::Budget => b" budget\n",
+    });
 }
 
 fn print_bad(out: &mut Vec<u8>, line_number: u32, column: u32) {

@@ -9,8 +9,9 @@ use Rattle.sheet.proofs.parse.parse.Tie as tie
 returns : tie.Need-returns
 returns c = sym (nothing-said _ (c .if1 .taken))
 
-returns-6 : tie.Need-returns-6
-returns-6 c = sym (no-kind _ (omega arith) (c .before .before .before .if2 .left) (c .before .before .if3 .left) (c .before .if4 .left) (c .if5 .left))
+returns-7 : tie.Need-returns-7
+returns-7 c =
+    sym (no-kind _ (omega arith) (c .before .before .before .before .if2 .left) (c .before .before .before .if3 .left) (c .before .before .if4 .left) (c .before .if5 .left) (c .if6 .left))
 
 pub parse-spec : {M : Type 1} → statement M
 parse-spec =
@@ -22,8 +23,10 @@ parse-spec =
     (λ c κs. search needs)
     (λ c κs. search needs)
     (λ c κs. search needs)
+    (λ c κs. search needs)
     (λ c. search needs)
     (λ c. search needs)
     (λ c. search needs)
     (λ c. search needs)
-    returns-6)
+    (λ c. search needs)
+    returns-7)

@@ -1,0 +1,189 @@
+-- How the parts of a settling run are put together: what each does to an image, and that a round that does nothing finds nothing to do.
+use Prim.Native.Nat.{ℕ, zero, suc, _+_, _-_, _≤_, _<_}
+use mathlib.Core.Path.{_≡_, refl, sym, _∙_, ap}
+use mathlib.Core.Bool.{Bool, true, false, _&&_, not}
+use mathlib.Core.List.{List, _++_, append-nil}
+use native.Mathlib.Omega.{arith}
+use borrow.Author.Tests.{eqb-true, eq-eqb, ne-eqb, lt-ltb, le-ltb}
+use lib.Dec.{eqb, ltb}
+use lib.ListN.{length, take, drop}
+use lib.Seq.{take-length, drop-length}
+use Rattle.view.specs.Logic.{pick, eachUpTo}
+use Rattle.view.proofs.Laws.{each-more, true-is-not-false}
+use Rattle.system.specs.declared.Outcome.{Outcome}
+use Rattle.sound.specs.Sound.{soundSystem}
+use Rattle.plan.specs.declared.Action.{Action}
+use Rattle.plan.specs.Cut.{whole}
+use Rattle.step.specs.Step.{stepped}
+use Rattle.image.specs.Image.{imageWidth, decoded, noSystem, systemIn}
+use Rattle.engine.specs.Engine.{Attempts}
+use Rattle.engine.proofs.Given.{no-system}
+use Rattle.settle.specs.declared.Ending.{Ending}
+use Rattle.settle.specs.declared.Settled.{Settled}
+use Rattle.settle.specs.declared.Ending.the-variants.{Held}
+use Rattle.settle.specs.Settle.{Progress, passing, tried, roundDone, unlessIdle, roundsDone, endingOf, endedWith, settled, Settles}
+use Rattle.settle.specs.Advances.{progressIn, Advances}
+
+-- ---- on an image
+pub no-advance : (budget steps : ℕ) (b : List ℕ) → soundSystem (systemIn b) ≡ true → Advances budget (λ x. x) steps b steps b
+no-advance budget steps b sound =
+    record { reached = refl; stays = sound; rises = omega arith; inside = λ h. h; kept = λ e. refl }
+
+pub advance-then : (budget : ℕ) (f g : Progress → Progress) (s m r : ℕ) (b c d : List ℕ) → Advances budget f s b m c → Advances budget g m c r d
+    → Advances budget (λ x. g (f x)) s b r d
+advance-then budget f g s m r b c d one two =
+    record {
+      reached = two .reached ∙ ap g (one .reached);
+      stays = two .stays;
+      rises = omega (arith, one .rises, two .rises);
+      inside = λ h. two .inside (one .inside h);
+      kept = λ e. two .kept (omega (arith, one .rises, two .rises, e)) ∙ one .kept (omega (arith, one .rises, two .rises, e));
+    }
+
+-- one turn more of a loop
+pub advance-more : (budget : ℕ) (f : ℕ → Progress → Progress) (k s m r : ℕ) (b c d : List ℕ) → Advances budget (eachUpTo k f) s b m c
+    → Advances budget (f (k + 1)) m c r d → Advances budget (eachUpTo (k + 1) f) s b r d
+advance-more budget f k s m r b c d one two =
+    let both = advance-then budget (eachUpTo k f) (f (k + 1)) s m r b c d one two in
+    record {
+      reached = both .reached ∙ sym (each-more k f (progressIn b s));
+      stays = both .stays;
+      rises = both .rises;
+      inside = both .inside;
+      kept = both .kept;
+    }
+
+-- ---- one take or answer
+pub spent : (budget : ℕ) (o : Action) (s : ℕ) (b : List ℕ) → soundSystem (systemIn b) ≡ true → budget ≤ s → Advances budget (tried budget o) s b s b
+unfolding tried pick
+spent budget o s b sound over =
+    record {
+      reached = rw (le-ltb s budget over);
+      stays = sound;
+      rises = omega arith;
+      inside = λ h. h;
+      kept = λ e. refl;
+    }
+
+module _ (budget : ℕ) (o : Action) (s : ℕ) (b : List ℕ) (sound : soundSystem (systemIn b) ≡ true) (below : s < budget) (k : ℕ) (c : List ℕ)
+    (a : Attempts (whole o) b k c) where
+  pub one-refused : (k ≡ 0 → ⊥) → Advances budget (tried budget o) s b s c
+  unfolding tried passing pick
+  one-refused some =
+      record {
+        reached =
+            rw (a .gives .kept some, lt-ltb s budget below, ← ap (λ (x : Outcome). x .refusal) (a .steps sound .outcome), ne-eqb k 0 some);
+        stays = a .stays sound;
+        rises = omega arith;
+        inside = λ h. h;
+        kept = λ e. a .gives .kept some;
+      }
+
+  pub one-done : k ≡ 0 → Advances budget (tried budget o) s b (s + 1) c
+  unfolding tried passing pick
+  one-done none =
+      record {
+        reached =
+            rw (lt-ltb s budget below, ← ap (λ (x : Outcome). x .refusal) (a .steps sound .outcome), ← ap (λ (x : Outcome). x .system) (a .steps sound .outcome), eq-eqb k 0 none)
+            (ap (λ (j : ℕ). progressIn c j) (omega arith));
+        stays = a .stays sound;
+        rises = omega arith;
+        inside = λ h. omega arith;
+        kept = λ e. absurd (omega (arith, e));
+      }
+
+-- ---- at rest
+-- where nothing is recorded no answer could be given
+pub no-answer : (idle live : Bool) → idle ≡ (idle && not (live && false))
+no-answer true true = refl
+no-answer true false = refl
+no-answer false live = refl
+
+-- ---- rounds
+-- so far on the way from bytes b to the end of the rounds: bytes c after some steps, with rounds enough ahead
+pub record Ahead (budget n : ℕ) (b : List ℕ) (steps : ℕ) (c : List ℕ) : Type 0 where
+  pub left : ℕ
+  pub enough : budget < left + steps
+  pub within : steps ≤ budget
+  pub goal : roundsDone (suc budget) budget n (progressIn b 0) ≡ roundsDone left budget n (progressIn c steps)
+  pub stays : soundSystem (systemIn c) ≡ true
+  pub kept : steps ≡ 0 → c ≡ b
+
+pub at-start : (budget n : ℕ) (b : List ℕ) → soundSystem (systemIn b) ≡ true → Ahead budget n b 0 b
+at-start budget n b sound =
+    record { left = suc budget; enough = omega arith; within = omega arith; goal = refl; stays = sound; kept = λ e. refl }
+
+-- one round more of at least one
+unrolled : (k budget n : ℕ) (x : Progress) → 0 < k
+    → (j : ℕ) × (k ≡ suc j) × (roundsDone k budget n x ≡ unlessIdle (x .steps) (roundsDone j budget n) (roundDone budget n x))
+unfolding roundsDone
+unrolled zero budget n x h = absurd (omega arith)
+unrolled (suc j) budget n x h = (j, refl, refl)
+
+module _ (budget n : ℕ) (b : List ℕ) (s : ℕ) (c : List ℕ) (r : ℕ) (d : List ℕ) (far : Ahead budget n b s c) (round : Advances budget (roundDone budget n) s c r d) where
+  pub round-idle : r ≡ s → Advances budget (roundsDone (suc budget) budget n) 0 b r d
+  unfolding unlessIdle pick
+  round-idle e =
+      let u = unrolled (far .left) budget n (progressIn c s) (omega (arith, far .enough, far .within)) in
+      record {
+        reached = sym (far .goal ∙ u .2 ∙ rw (← round .reached, eq-eqb r s e));
+        stays = round .stays;
+        rises = omega arith;
+        inside = λ h. round .inside (far .within);
+        kept = λ none. round .kept e ∙ far .kept (sym e ∙ none);
+      }
+
+  pub round-more : (r ≡ s → ⊥) → Ahead budget n b r d
+  unfolding unlessIdle pick
+  round-more some =
+      let u = unrolled (far .left) budget n (progressIn c s) (omega (arith, far .enough, far .within)) in
+      record {
+        left = u .0;
+        enough = omega (arith, u .1, far .enough, round .rises, some);
+        within = round .inside (far .within);
+        goal = far .goal ∙ u .2 ∙ rw (← round .reached, ne-eqb r s some);
+        stays = round .stays;
+        kept = λ none. absurd (some (omega (arith, round .rises, none)));
+      }
+
+  -- the budget that is left falls
+  pub round-less : (r ≡ s → ⊥) → budget - r < budget - s
+  round-less some = omega (arith, round .rises, some, far .within, round .inside (far .within))
+
+-- ---- a copy
+-- bytes that hold a sound system have the length of an image
+pub sound-long : (b : List ℕ) → soundSystem (systemIn b) ≡ true → length b ≡ imageWidth
+unfolding systemIn pick
+sound-long b sound = go (eqb (length b) imageWidth) refl sound
+  where
+    go : (t : Bool) → eqb (length b) imageWidth ≡ t → soundSystem (pick t (decoded b) noSystem) ≡ true → length b ≡ imageWidth
+    go true e s = eqb-true (length b) imageWidth e
+    go false e s = true-is-not-false (sym s ∙ no-system)
+
+pub copy-whole : (from to after : List ℕ) → length from ≡ length to → after ≡ take (length from) from ++ drop (length from) to → after ≡ from
+copy-whole from to after long is =
+    is ∙ rw (take-length from, ap (λ (k : ℕ). drop k to) long, drop-length to) (append-nil from)
+
+-- ---- the whole run
+ended : (budget r : ℕ) (c : List ℕ) (e : Ending) → e ≡ endingOf budget (progressIn c r)
+    → _≡_ {A = Settled} (record { refusal = 0; steps = r; ending = e; system = systemIn c }) (endedWith budget (progressIn c r))
+unfolding endedWith
+ended budget r c e is = rw is
+
+pub run-settles : (budget n r : ℕ) (b c : List ℕ) (e : Ending) → soundSystem (systemIn b) ≡ true → n ≡ systemIn b .n
+    → Advances budget (roundsDone (suc budget) budget n) 0 b r c → e ≡ endingOf budget (progressIn c r)
+    → Settles (settled budget (systemIn b)) b (record { refusal = 0; steps = r; ending = e }) c
+unfolding settled pick
+run-settles budget n r b c e sound size run ends =
+    let reached : progressIn c r ≡ roundsDone (suc budget) budget (systemIn b .n) (progressIn b 0) =
+    run .reached ∙ ap (λ (k : ℕ). roundsDone (suc budget) budget k (progressIn b 0)) size in
+    record {
+      outcome = rw (sound, ← reached) (ended budget r c e ends);
+      kept = run .kept;
+      stays = λ h. run .stays;
+    }
+
+pub unsound-settles : (budget : ℕ) (b : List ℕ) → soundSystem (systemIn b) ≡ false → Settles (settled budget (systemIn b)) b (record { refusal = 1; steps = 0; ending = Held }) b
+unfolding settled pick
+unsound-settles budget b off =
+    record { outcome = rw off; kept = λ e. refl; stays = λ on. true-is-not-false (sym on ∙ off) }

@@ -1,0 +1,3 @@
+-- The settling run.
+pub mod Settle
+pub mod Advances
