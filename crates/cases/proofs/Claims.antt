@@ -32,7 +32,7 @@ use Rattle.cases.specs.Worked.{textOf, stepIn, stepsIn, stepsOf, printed
 use Rattle.cases.specs.Sheets.{k-sheets, k1, k1-ends, k2, k3, k4, k4-full, k5-stays, k5, k6, k7, k8, k8-nine, k9, form-sheets, settle-two, no-last-lf, later-u, empty-lines, first-u9, one-lf, empty}
 use Rattle.cases.specs.Points.{points, lineOutcome, outcomeOf, expectedOutcome}
 use Rattle.cases.specs.Settles.{settlings, settledOf, expectedSettled, proposedToTwo, writtenAtTwo, writtenAtBoth, recordedByOne, crosswise}
-use Rattle.cases.specs.Cuts.{proposedBy1, told, proposing, lastAcc, fullRetry, lastIndex, answering, cuts, cutStop, acceptedByCut, acceptedIsCut}
+use Rattle.cases.specs.Cuts.{proposedBy1, told, proposedBoth, lastAcc, fullRetry, lastIndex, answering, cuts, cutStop, acceptedByCut, acceptedIsCut}
 use Rattle.cases.specs.Rule.{k2-accepted, k2-agreements, k2-book, at-two, at-three, twice-accepted, shared, trials, admittedBy, expectedAnswer}
 
 -- what the claims are computed with: a claim that unfolds this one unfolds all that its line names
@@ -56,7 +56,7 @@ unfolding pick allUpTo eachUpTo at put has within with everyone firstFrom leastO
     withValues withStop withRecord withWritten loaded withMessages lone
     textOf stepIn stepsIn stepsOf printedBy openedWith startOf ranOn queueIn resultOf expectedResult
     k1 k1-ends k2 k3 k4 k4-full k5-stays k5 k6 k7 k8 k8-nine k9 settle-two no-last-lf later-u empty-lines first-u9 one-lf empty
-    lineOutcome outcomeOf proposedBy1 told proposing lastAcc fullRetry lastIndex answering cutStop acceptedByCut acceptedIsCut
+    lineOutcome outcomeOf proposedBy1 told proposedBoth lastAcc fullRetry lastIndex answering cutStop acceptedByCut acceptedIsCut
     settledOf proposedToTwo writtenAtTwo writtenAtBoth recordedByOne crosswise
     k2-accepted k2-agreements k2-book at-two at-three twice-accepted shared trials admittedBy
 definitions = tt

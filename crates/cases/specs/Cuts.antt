@@ -30,16 +30,16 @@ unfoldable pub told : ℕ → System → System
 told p s = withMessages s 1 p (Propose 31 (index 2) ∷ [])
 
 -- process 1 has proposed {1,2} at 2, with these marks
-unfoldable pub proposing : ℕ → System
-proposing acks = withValues two 1 3 2 2 3 acks
+unfoldable pub proposedBoth : ℕ → System
+proposedBoth acks = withValues two 1 3 2 2 3 acks
 
 -- the Acc of process 2, which is the last, waits for it
 unfoldable pub lastAcc : System
-lastAcc = withMessages (proposing 1) 2 1 (Acc (index 2) ∷ [])
+lastAcc = withMessages (proposedBoth 1) 2 1 (Acc (index 2) ∷ [])
 
 -- a Retry from process 2 waits for it, and its channel to itself is full
 unfoldable pub fullRetry : System
-fullRetry = withMessages (withMessages (proposing 0) 2 1 (Retry (index 2) (index 4) ∷ [])) 1 1 (replicate 8 (Acc (index 2)))
+fullRetry = withMessages (withMessages (proposedBoth 0) 2 1 (Retry (index 2) (index 4) ∷ [])) 1 1 (replicate 8 (Acc (index 2)))
 
 -- process 1 has proposed at index 32
 unfoldable pub lastIndex : System
@@ -63,10 +63,10 @@ cuts =
     ∷ refuses five "r 1 12345 cut 5" 12
     ∷ refuses five "r 1 12345 cut 9" 12
     -- an Acc that would commit: the marks are cleared, and nothing is sent; nothing stays on the channel to 1 itself
-    ∷ point lastAcc "t 2 1 cut 0" (done (withStop (proposing 0) 1))
-    ∷ point lastAcc "t 2 1 cut 1" (done (withStop (proposing 0) 1))
+    ∷ point lastAcc "t 2 1 cut 0" (done (withStop (proposedBoth 0) 1))
+    ∷ point lastAcc "t 2 1 cut 1" (done (withStop (proposedBoth 0) 1))
     ∷ point lastAcc "t 2 1"
-    (done (withMessages (withMessages (proposing 0) 1 1 (Commit 3 (index 2) ∷ [])) 1 2 (Commit 3 (index 2) ∷ [])))
+    (done (withMessages (withMessages (proposedBoth 0) 1 1 (Commit 3 (index 2) ∷ [])) 1 2 (Commit 3 (index 2) ∷ [])))
     -- an answer: Next is raised and the record is gone
     ∷ point answering "a 2 1 cut 0" (done (withStop (withValues two 2 3 3 1 0 0) 2))
     ∷ refuses answering "a 2 1 cut 1" 12
@@ -89,7 +89,7 @@ cuts =
     ∷ refuses two "r 2 12 cut 0" 12
     ∷ refuses (withMessages two 1 2 (Propose 3 (index 2) ∷ [])) "t 1 2 cut 0" 12
     ∷ refuses (withMessages two 1 2 (Commit 3 (index 2) ∷ [])) "t 1 2 cut 0" 12
-    ∷ refuses (withMessages (proposing 0) 2 1 (Acc (index 2) ∷ [])) "t 2 1 cut 0" 12
+    ∷ refuses (withMessages (proposedBoth 0) 2 1 (Acc (index 2) ∷ [])) "t 2 1 cut 0" 12
     -- who was cut has stopped
     ∷ refuses (told 3 (told 2 (proposedBy1 five))) "r 1 1" 3
     ∷ []

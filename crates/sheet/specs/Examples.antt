@@ -100,8 +100,8 @@ abbrev crashes : ℕ → Line
 crashes p = Step (whole (Crash (process p)))
 
 -- cut after so many messages
-abbrev cuts : Action → ℕ → Line
-cuts o k = Step (cutAfter o k)
+abbrev isCut : Action → ℕ → Line
+isCut o k = Step (cutAfter o k)
 
 abbrev pub sayings : List (Saying Line)
 sayings =
@@ -122,13 +122,13 @@ sayings =
     ∷ "s 9" says crashes 9
     ∷ "q" says Settle
     -- cut after any digit
-    ∷ "r 1 12 cut 3" says cuts (report 1 3) 3
-    ∷ "r 1 - cut 0" says cuts (report 1 0) 0
-    ∷ "r 9 12345678 cut 9" says cuts (report 9 255) 9
-    ∷ "t 1 2 cut 0" says cuts (receive 1 2) 0
-    ∷ "t 9 0 cut 8" says cuts (receive 9 0) 8
-    ∷ "a 1 2 cut 1" says cuts (respond 1 2) 1
-    ∷ "a 0 9 cut 9" says cuts (respond 0 9) 9
+    ∷ "r 1 12 cut 3" says isCut (report 1 3) 3
+    ∷ "r 1 - cut 0" says isCut (report 1 0) 0
+    ∷ "r 9 12345678 cut 9" says isCut (report 9 255) 9
+    ∷ "t 1 2 cut 0" says isCut (receive 1 2) 0
+    ∷ "t 9 0 cut 8" says isCut (receive 9 0) 8
+    ∷ "a 1 2 cut 1" says isCut (respond 1 2) 1
+    ∷ "a 0 9 cut 9" says isCut (respond 0 9) 9
     -- a settling run stands alone
     ∷ "q " says Bad 2
     ∷ "q cut 0" says Bad 2
