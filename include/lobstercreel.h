@@ -1,6 +1,6 @@
 /* Lobstercreel: the proved steps of the membership algorithm, for firmware in C.
  *
- * The library keeps nothing between calls and allocates nothing. The caller lends an image: 2,097 bytes that hold the whole system,
+ * The library keeps nothing between calls and allocates nothing. The caller lends an image: 2,105 bytes that hold the whole system,
  * every field one byte. Each function answers a number and changes nothing but what it was lent. A step that is refused leaves the
  * image as it was, byte for byte; lobstercreel_fresh is no step, and for a wrong n it writes a system of zero units. Any bytes may be
  * handed over: what is no image, or no sound system, is refused with 1. What lies past n or past a line's length means nothing; it may
@@ -26,7 +26,7 @@ extern "C" {
 #endif
 
 /* The length of an image. */
-#define LOBSTERCREEL_IMAGE 2097
+#define LOBSTERCREEL_IMAGE 2105
 
 /* Where things stand in an image. Units are numbered 1 to 8, positions of the history 1 to 32. */
 #define LOBSTERCREEL_N 0                                        /* how many units there are: 1 to 8 */
@@ -42,6 +42,7 @@ extern "C" {
 #define LOBSTERCREEL_LINE(q, p) (497 + 200 * ((q) - 1) + 25 * ((p) - 1)) /* 25 bytes of the line from unit q to unit p */
 #define LOBSTERCREEL_SLOT(k) (3 * (k))                          /* its message k, the oldest is 0: tag and two operands */
 #define LOBSTERCREEL_LENGTH 24                                  /* how many messages wait: 0 to 8 */
+#define LOBSTERCREEL_TRUST(p) (2097 + ((p) - 1))                /* the units that unit p may trust again: bit q-1 is the mark (p, q) */
 
 /* The tag of a recorded proposal. */
 enum { LOBSTERCREEL_NOTHING, LOBSTERCREEL_PROPOSED };
@@ -64,11 +65,12 @@ enum {
     LOBSTERCREEL_LONG_SHEET = 9,   /* what a sheet of more than 60,000 bytes prints */
     LOBSTERCREEL_NO_RECORD = 10,   /* answering with no recorded proposal */
     LOBSTERCREEL_OTHER_VIEW = 11,  /* answering a recorded proposal whose view is not the local view */
-    LOBSTERCREEL_CUT_TOO_LATE = 12 /* the step would send no more messages than those after which it is cut */
+    LOBSTERCREEL_CUT_TOO_LATE = 12,/* the step would send no more messages than those after which it is cut */
+    LOBSTERCREEL_EARLY_TRUST = 13  /* the reported view brings back a unit whose own view has not lacked the reporting one meanwhile */
 };
 
 /* Writes the image of the fresh system of n units. 0; or 2 for an n outside 1 to 8, and then the image is that of a system of zero
- * units; or 1 for a length other than 2,097, and then nothing is written. */
+ * units; or 1 for a length other than 2,105, and then nothing is written. */
 uint8_t lobstercreel_fresh(uint8_t *image, size_t length, uint8_t n);
 
 /* Unit p is told its view. */

@@ -47,6 +47,7 @@ static uint8_t *line_length(uint8_t *of, int q, int p) { return of + LOBSTERCREE
 static uint8_t *record(uint8_t *of, int p, int q) { return of + LOBSTERCREEL_UNIT(p) + LOBSTERCREEL_RECORD(q); }
 static uint8_t *entry(uint8_t *of, int p, int i) { return of + LOBSTERCREEL_UNIT(p) + LOBSTERCREEL_ENTRY(i); }
 static uint8_t *slot(uint8_t *of, int q, int p, int k) { return of + LOBSTERCREEL_LINE(q, p) + LOBSTERCREEL_SLOT(k); }
+static uint8_t *trust(uint8_t *of, int p) { return of + LOBSTERCREEL_TRUST(p); }
 
 static void set(uint8_t *at, int a, int b, int c) {
     at[0] = (uint8_t)a;
@@ -77,6 +78,7 @@ static int same_table(uint8_t *a, uint8_t *b) {
             if (*field(a, p, fields[i]) != *field(b, p, fields[i])) return 0;
         for (int i = 1; i <= 32; i++)
             if (*entry(a, p, i) != *entry(b, p, i)) return 0;
+        if ((*trust(a, p) ^ *trust(b, p)) & all(n)) return 0;
         for (int q = 1; q <= n; q++) {
             int there = *record(a, p, q) == LOBSTERCREEL_PROPOSED, waiting = *line_length(a, q, p);
             if (memcmp(record(a, p, q), record(b, p, q), there ? 3 : 1) != 0) return 0;
@@ -139,6 +141,7 @@ static void places(void) {
     static int times[LOBSTERCREEL_IMAGE];
     times[LOBSTERCREEL_N]++;
     for (int p = 1; p <= 8; p++) {
+        times[LOBSTERCREEL_TRUST(p)]++;
         for (int i = 0; i <= LOBSTERCREEL_ACKS; i++) times[LOBSTERCREEL_UNIT(p) + i]++;
         for (int i = 1; i <= 32; i++) times[LOBSTERCREEL_UNIT(p) + LOBSTERCREEL_ENTRY(i)]++;
         for (int q = 1; q <= 8; q++) {
@@ -191,14 +194,22 @@ static void fresh(void) {
     }
 }
 
-/* Every unit reports every view that it can: it proposes where it is the least. */
+/* Every unit reports every view that it can: it proposes where it is the least. Half of the units lack it already: it may trust those
+ * again, and not the others; and each that its view lacks may trust it again. */
 static void reports(void) {
     for (int p = 1; p <= 8; p++)
         for (int view = 0; view < 256; view++) {
             if (!(view & only(p))) continue;
             start(8);
+            for (int q = p % 2 + 1; q <= 8; q += 2) *field(image, q, LOBSTERCREEL_VIEW) = (uint8_t)(all(8) & ~only(p));
+            *trust(image, p) = 0x99;
             prepare();
             *field(wanted, p, LOBSTERCREEL_VIEW) = (uint8_t)view;
+            for (int q = 1; q <= 8; q++) {
+                if (view & only(q)) continue;
+                *trust(wanted, q) |= only(p);
+                *trust(wanted, p) = (uint8_t)((q - p) % 2 ? *trust(wanted, p) | only(q) : *trust(wanted, p) & ~only(q));
+            }
             if ((view & all(p - 1)) == 0) {
                 *field(wanted, p, LOBSTERCREEL_PROPOUT) = 2;
                 *field(wanted, p, LOBSTERCREEL_PROPOSAL) = (uint8_t)view;
@@ -206,6 +217,34 @@ static void reports(void) {
                     if (view & only(q)) put(wanted, p, q, LOBSTERCREEL_PROPOSE, view, 2);
             }
             done(lobstercreel_report(image, length, (uint8_t)p, (uint8_t)view), "report", p, view, 0);
+        }
+}
+
+/* A view that brings back one unit, then one that brings back two: refused until each of them is marked. */
+static void trusts(void) {
+    for (int p = 1; p <= 8; p++)
+        for (int q = 1; q <= 8; q++) {
+            if (p == q) continue;
+            start(8);
+            *field(image, p, LOBSTERCREEL_VIEW) = only(p);
+            for (int r = 1; r <= 8; r++) *trust(image, r) = r == p ? (uint8_t)(all(8) & ~only(q)) : all(8);
+            prepare();
+            refused(lobstercreel_report(image, length, (uint8_t)p, all(8)), LOBSTERCREEL_EARLY_TRUST, "all come back too early");
+            refused(lobstercreel_report(image, length, (uint8_t)p, both(p, q)), LOBSTERCREEL_EARLY_TRUST, "one comes back too early");
+            *trust(image, p) = only(q);
+            for (int r = 1; r <= 8; r++)
+                if (r != p) *trust(image, r) = 0;
+            prepare();
+            *field(wanted, p, LOBSTERCREEL_VIEW) = both(p, q);
+            for (int r = 1; r <= 8; r++)
+                if (r != p && r != q) *trust(wanted, r) = only(p);
+            if (p < q) {
+                *field(wanted, p, LOBSTERCREEL_PROPOUT) = 2;
+                *field(wanted, p, LOBSTERCREEL_PROPOSAL) = both(p, q);
+                put(wanted, p, p, LOBSTERCREEL_PROPOSE, both(p, q), 2);
+                put(wanted, p, q, LOBSTERCREEL_PROPOSE, both(p, q), 2);
+            }
+            done(lobstercreel_report(image, length, (uint8_t)p, both(p, q)), "report, bringing back", p, q, 0);
         }
 }
 
@@ -348,7 +387,7 @@ static void refusals(void) {
     refused(lobstercreel_report(image, length, 1, 7), LOBSTERCREEL_UNSOUND, "a Next of 34");
 }
 
-/* Marks the bytes that mean something in an image. */
+/* Marks the bytes that mean something in an image, but those of trust, of which any value is sound. */
 static void mark(uint8_t *meant, uint8_t *of) {
     int n = of[LOBSTERCREEL_N];
     memset(meant, 0, length);
@@ -365,7 +404,7 @@ static void mark(uint8_t *meant, uint8_t *of) {
     }
 }
 
-/* With 255 in any byte that means something this table is not sound; any other byte may be 255. */
+/* With 255 in any byte that means something this table is not sound, trust apart; any other byte may be 255. */
 static void damage_each(const char *what) {
     static uint8_t good[LOBSTERCREEL_IMAGE], meant[LOBSTERCREEL_IMAGE];
     memcpy(good, image, length);
@@ -379,7 +418,11 @@ static void damage_each(const char *what) {
             expect(answer == LOBSTERCREEL_UNSOUND && unchanged(), "%s, byte %d damaged: answer %d", what, at, answer);
         } else {
             *field(wanted, 2, LOBSTERCREEL_VIEW) = 3;
-            done(answer, "a byte that means nothing", at, 0, 0);
+            for (int q = 3; q <= good[LOBSTERCREEL_N]; q++) {
+                *trust(wanted, q) |= only(2);
+                *trust(wanted, 2) &= (uint8_t)~only(q);
+            }
+            done(answer, "a byte that means nothing, or of trust", at, 0, 0);
         }
     }
 }
@@ -635,6 +678,7 @@ int main(void) {
     lengths();
     fresh();
     reports();
+    trusts();
     commits();
     records();
     proposals();

@@ -1,6 +1,6 @@
 -- In all steps from a fresh system of n processes, at most 124 n n takes and answers are done: for every list of steps, refused ones
 -- included. So many are due at the start, each that is done pays one, and no step makes more due.
-use Prim.Native.Nat.{ℕ, zero, suc, _+_, _-_, _*_, _≤_}
+use Prim.Native.Nat.{ℕ, _+_, _-_, _*_, _≤_}
 use mathlib.Core.Path.{_≡_, refl, _∙_, ap, subst}
 use mathlib.Core.Bool.{true, false}
 use mathlib.Core.List.{List, [], _∷_, _++_}
@@ -8,16 +8,14 @@ use native.Mathlib.Omega.{arith}
 use native.Mathlib.Nat.{mul-le-mul, mul-le-mul-right}
 use borrow.Author.Tests.{eqb-true, ne-eqb}
 use lib.Dec.{eqb}
-use lib.ListN.{length, replicate}
-use Rattle.view.specs.Logic.{pick, at, isOneOf}
+use lib.ListN.{length}
+use Rattle.view.specs.Logic.{pick, isOneOf}
 use Rattle.view.specs.View.{has}
 use Rattle.view.proofs.Laws.{by-pick, by-test, and-left, and-right, one-of}
 use Rattle.system.specs.declared.Variables.{Variables}
-use Rattle.system.specs.declared.Process.{Process}
 use Rattle.system.specs.declared.System.{System}
 use Rattle.system.specs.declared.Outcome.{Outcome}
-use Rattle.system.specs.System.{noProcess, processAt, variablesAt}
-use Rattle.system.specs.Fresh.{freshVariables, freshProcess, freshSystem, freshOf}
+use Rattle.system.specs.Fresh.{freshVariables, freshSystem, freshOf}
 use Rattle.sound.specs.Sound.{soundSystem}
 use Rattle.plan.specs.declared.Step.{Step}
 use Rattle.step.specs.Step.{stepped, Event, does, happened, ran}
@@ -25,7 +23,7 @@ use Rattle.step.proofs.Soundness.{Valid, sound-facts}
 use Rattle.step.proofs.Inversion.{by-outcome}
 use Rattle.step.proofs.SoundSteps.{step-sound}
 use Rattle.step.proofs.Outcomes.{size-kept, unsound-is-1}
-use Rattle.step.proofs.Beginning.{nothing-recorded, nothing-waits, fresh-valid}
+use Rattle.step.proofs.Beginning.{fresh-variables, nothing-recorded, nothing-waits, fresh-valid}
 use Rattle.bound.specs.Bound.{takeOrAnswerDone, takesAndAnswers, allDone, Bound, Further}
 use Rattle.bound.proofs.Sums.{pairs, pairs-fall-at, pairs-at-most}
 use Rattle.bound.proofs.Dues.{bit, unmarked, is-self, count, recorded, held, mark, ahead, stake, due}
@@ -66,25 +64,14 @@ run-paid n s e valid (does o ∷ os) =
     )
 
 -- ---- at the start
-at-equal : {A : Type 0} (n k : ℕ) (a d : A) → 1 ≤ k → k ≤ n → at (replicate n a) k d ≡ a
-unfolding at
-at-equal zero k a d low high = absurd (omega arith)
-at-equal (suc n) zero a d low high = absurd (omega arith)
-at-equal (suc n) (suc zero) a d low high = refl
-at-equal (suc n) (suc (suc k)) a d low high = at-equal n (suc k) a d (omega arith) (omega arith)
-
 module _ (n a : ℕ) (low : 1 ≤ a) (high : a ≤ 8) where
-  fresh-variables : variablesAt (freshSystem n) a ≡ freshVariables n
-  unfolding processAt freshSystem freshProcess
-  fresh-variables = ap (λ (x : Process). x .variables) (at-equal 8 a (freshProcess n) noProcess low high)
-
   fresh-mark : mark (freshSystem n) a ≡ 0
   unfolding mark freshVariables
-  fresh-mark = ap (λ (x : Variables). bit (has (x .acks) a)) fresh-variables ∙ unmarked a
+  fresh-mark = ap (λ (x : Variables). bit (has (x .acks) a)) (fresh-variables n a low high) ∙ unmarked a
 
   fresh-ahead : ahead (freshSystem n) a ≡ 31
   unfolding ahead freshVariables
-  fresh-ahead = ap (λ (x : Variables). 32 - x .propout .0) fresh-variables
+  fresh-ahead = ap (λ (x : Variables). 32 - x .propout .0) (fresh-variables n a low high)
 
   -- 31 proposals, and four for each
   fresh-due : (b : ℕ) → due (freshSystem n) a b ≤ 124

@@ -5,4 +5,5 @@ pub mod Sheets
 pub mod Points
 pub mod Rule
 pub mod Cuts
+pub mod Doubts
 pub mod Settles

@@ -16,7 +16,7 @@ use Rattle.settle.specs.Settle.{settled}
 use Rattle.sheet.specs.declared.parse.Line.{Line}
 use Rattle.sheet.specs.declared.parse.Line.the-variants.{Bad, Step, Settle}
 use Rattle.sheet.specs.Parse.{parsed}
-use Rattle.cases.specs.Systems.{one, two, withValues, withStop, withRecord, withWritten, withMessages, lone}
+use Rattle.cases.specs.Systems.{one, two, withValues, withTrustOf, withStop, withRecord, withWritten, withMessages, lone}
 
 pub record Point : Type 0 where
   pub before : System
@@ -62,8 +62,8 @@ points =
     ∷ point (withMessages (withValues two 2 3 2 2 2 0) 1 2 (Retry (index 2) (index 4) ∷ [])) "t 1 2" (done (withValues two 2 3 2 2 2 0))
     -- "Commit(view, i): position i at p becomes that view", whatever stood there
     ∷ point (withMessages (withWritten two 1 2 1) 2 1 (Commit 3 (index 2) ∷ [])) "t 2 1" (done (withWritten two 1 2 3))
-    -- a report by a process that is not the least: "Otherwise nothing else changes", the marks neither
-    ∷ point (withValues two 2 2 2 2 2 2) "r 2 12" (done (withValues two 2 3 2 2 2 2))
+    -- a report by a process that is not the least: "Otherwise nothing else changes", the acknowledgements neither
+    ∷ point (withTrustOf (withValues two 2 2 2 2 2 2) 2 1) "r 2 12" (done (withTrustOf (withValues two 2 3 2 2 2 2) 2 1))
     -- "A view equal to the present one is treated the same way."
     ∷ point two "r 1 12"
     (done (withMessages (withMessages (withValues two 1 3 2 2 3 0) 1 1 (Propose 3 (index 2) ∷ [])) 1 2 (Propose 3 (index 2) ∷ [])))

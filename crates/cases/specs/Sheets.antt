@@ -51,9 +51,11 @@ k1-ends =
           }
           ∷ replicate 7 (freshProcess 2);
       channels = replicate 64 emptyChannel;
+      -- process 2 may trust process 1 again, whose view lacked it; not the other way round
+      trust = 0 ∷ 1 ∷ replicate 6 0;
     }
 
--- K2: "Unit 1 ends with positions 1 and 3 as 12; unit 2 with 1 as 12, 2 as 2, 3 as 12; both Next 4."
+-- K2. Document 02: "K2 would now stop at unit 2's second report", line 7: unit 1's view never lacked 2
 unfoldable pub k2 : WorkedSheet
 k2 =
     wholeSheet
@@ -61,17 +63,17 @@ k2 =
     ("u 2\nr 2 2\nt 2 2\na 2 2\nt 2 2\nt 2 2\n"
     -- "2 reports {1,2}; 1 reports {1,2}, proposing at 2"
     ∷ "r 2 12\nr 1 12\n"
-    -- "unit 1 accepts, unit 2 answers Retry(2,3)"
+    -- "unit 1 accepts"; unit 2, whose view is still {2}, does not answer
     ∷ "t 1 1\na 1 1\nt 1 2\na 2 1\nt 1 1\nt 2 1\n"
-    -- "both accept at 3"
+    -- and there is no second proposal
     ∷ "t 1 1\na 1 1\nt 1 2\na 2 1\nt 1 1\nt 2 1\nt 1 1\nt 1 2\n"
     ∷ [])
     ("2 0\n3 0\n4 0\n5 0\n6 0\n"
-    ∷ "7 0\n8 0\n"
-    ∷ "9 0\n10 0\n11 0\n12 0\n13 0\n14 0\n"
-    ∷ "15 0\n16 0\n17 0\n18 0\n19 0\n20 0\n21 0\n22 0\n"
-    ∷ "unit 1 live next 4 1=12 3=12\n"
-    ∷ "unit 2 live next 4 1=12 2=2 3=12\n"
+    ∷ "7 13\n8 0\n"
+    ∷ "9 0\n10 0\n11 0\n12 11\n13 0\n14 5\n"
+    ∷ "15 5\n16 10\n17 5\n18 11\n19 5\n20 5\n21 5\n22 5\n"
+    ∷ "unit 1 live next 3 1=12\n"
+    ∷ "unit 2 live next 3 1=12 2=2\n"
     ∷ [])
 
 -- K3: "entries at 1 and 9, Next 10."

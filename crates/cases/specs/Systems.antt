@@ -1,13 +1,14 @@
 -- Systems to hand over: a fresh one with some parts replaced.
 use Prim.Native.Nat.{ℕ}
 use mathlib.Core.List.{List, [], _∷_}
+use Rattle.view.specs.Logic.{put}
 use Rattle.channel.specs.declared.Message.{Message}
 use Rattle.channel.specs.declared.Channel.{Channel}
 use Rattle.channel.specs.Channel.{emptyChannel, pushed}
 use Rattle.system.specs.declared.Pending.the-variants.{Proposal}
 use Rattle.system.specs.declared.System.{System}
 use Rattle.system.specs.Process.{index, assigned, asCrashed, withEntry, withPending, withVariables, withHistory}
-use Rattle.system.specs.System.{processAt, variablesAt, withProcess, withChannel}
+use Rattle.system.specs.System.{processAt, variablesAt, withProcess, withChannel, withTrust}
 use Rattle.system.specs.Fresh.{freshSystem}
 
 abbrev pub one : System
@@ -16,11 +17,15 @@ one = freshSystem 1
 abbrev pub two : System
 two = freshSystem 2
 
--- process p has this local view, Next, PropOut, last proposed view and marks
+-- process p has this local view, Next, PropOut, last proposed view and acknowledgements
 unfoldable pub withValues : System → ℕ → ℕ → ℕ → ℕ → ℕ → ℕ → System
 withValues s p view next propout proposal acks =
     withProcess s p
     (withVariables (processAt s p) (assigned (variablesAt s p) view (index next) (index propout) proposal acks))
+
+-- process p may trust these again
+unfoldable pub withTrustOf : System → ℕ → ℕ → System
+withTrustOf s p set = withTrust s (put (s .trust) p set)
 
 -- process p has stopped
 unfoldable pub withStop : System → ℕ → System

@@ -1,4 +1,4 @@
--- The image of a system whose arrays have their lengths is 2,097 bytes long, and is read back as that very system.
+-- The image of a system whose arrays have their lengths is 2,105 bytes long, and is read back as that very system.
 use Prim.Native.Nat.{ℕ, _*_}
 use mathlib.Core.Path.{_≡_, refl, sym, _∙_, ap, subst}
 use mathlib.Core.Bool.{Bool, true, false}
@@ -6,7 +6,7 @@ use mathlib.Core.List.{List, [], _∷_, _++_, append-assoc, append-nil}
 use native.Mathlib.Nat.{add-comm, mul-suc, mul-zero}
 use borrow.Author.Tests.{eq-eqb}
 use lib.Dec.{eqb, leb}
-use lib.ListN.{length, length-append}
+use lib.ListN.{length, drop, length-append}
 use lib.Seq.{drop-at, getD-at}
 use Rattle.view.specs.Logic.{pick}
 use Rattle.view.proofs.Laws.{Each, each-as}
@@ -21,7 +21,7 @@ use Rattle.system.specs.declared.Variables.{Variables}
 use Rattle.system.specs.declared.Process.{Process}
 use Rattle.system.specs.declared.System.{System}
 use Rattle.system.specs.Fresh.{freshSystem}
-use Rattle.image.specs.Image.{messageWidth, lengthPlace, channelWidth, recordWidth, variablesWidth, processWidth, imageWidth, concatenated, messageBytes, slotBytes, channelBytes, pendingBytes, recordBytes, variablesBytes, processBytes, encoded, rows, byte, messageOf, slotIn, channelIn, pendingOf, recordIn, historyIn, variablesOf, variablesIn, processIn, decoded, systemIn}
+use Rattle.image.specs.Image.{messageWidth, lengthPlace, channelWidth, recordWidth, variablesWidth, processWidth, trustPlace, imageWidth, concatenated, messageBytes, slotBytes, channelBytes, pendingBytes, recordBytes, variablesBytes, processBytes, encoded, rows, byte, messageOf, slotIn, channelIn, pendingOf, recordIn, historyIn, variablesOf, variablesIn, processIn, decoded, systemIn}
 use Rattle.codec.proofs.Laws.{oneByte, bytes-concatenated}
 use Rattle.codec.proofs.Lengths.{ProcessLengths, ChannelLengths, Lengths}
 
@@ -131,18 +131,34 @@ module _ (s : System) (l : Lengths s) where
   channels : Row (channelWidth * 64) (concatenated channelBytes) (rows 64 channelWidth channelIn) (s .channels)
   channels = all-rows channelWidth channelBytes channelIn 64 (s .channels) (l .channels) (each-as _ _ channel-row (s .channels) (l .each-channel))
 
+  trust : Row 8 (concatenated oneByte) (rows 8 1 (byte 0)) (s .trust)
+  trust = all-rows 1 oneByte (byte 0) 8 (s .trust) (l .trust) (each _ byte-row (s .trust))
+
   pub encoded-length : length (encoded s) ≡ imageWidth
   unfolding encoded
   encoded-length =
-      length-append ((s .n ∷ []) ++ concatenated processBytes (s .processes)) (concatenated channelBytes (s .channels)) ∙ rw (processes .long, channels .long)
+      let a = (s .n ∷ []) ++ concatenated processBytes (s .processes) in
+      let b = concatenated channelBytes (s .channels) in
+      length-append (a ++ b) (s .trust) ∙ rw (length-append a b, processes .long, channels .long, l .trust)
+
+  trust-last : rows 8 1 (byte 0) (drop trustPlace ((s .n ∷ []) ++ concatenated processBytes (s .processes) ++ concatenated channelBytes (s .channels) ++ s .trust)) ≡ s .trust
+  trust-last =
+      let a = (s .n ∷ []) ++ concatenated processBytes (s .processes) in
+      let b = concatenated channelBytes (s .channels) in
+      ap (rows 8 1 (byte 0)) (drop-at (a ++ b) (s .trust) trustPlace (length-append a b ∙ rw (processes .long, channels .long)))
+      ∙ (rw (bytes-concatenated (s .trust), append-nil (s .trust)) at (trust .back []))
 
   pub decode-encode : decoded (encoded s) ≡ s
   unfolding encoded decoded
   decode-encode =
+      let a = concatenated processBytes (s .processes) in
+      let b = concatenated channelBytes (s .channels) in
       rw (
-        processes .back (concatenated channelBytes (s .channels)),
-        drop-at (concatenated processBytes (s .processes)) (concatenated channelBytes (s .channels)) (processWidth * 8) (processes .long),
-        rw (append-nil (concatenated channelBytes (s .channels))) at (channels .back []),
+        trust-last,
+        append-assoc ((s .n ∷ []) ++ a) b (s .trust),
+        processes .back (b ++ s .trust),
+        drop-at a (b ++ s .trust) (processWidth * 8) (processes .long),
+        channels .back (s .trust),
       )
 
   pub system-back : systemIn (encoded s) ≡ s

@@ -53,6 +53,6 @@ unfolding variablesIn variablesOf pick
 wrong-flag = refl
 
 -- a byte too few
-pub wrong-length : systemIn (take 2096 (encoded (freshSystem 2))) ≡ noSystem
+pub wrong-length : systemIn (take 2104 (encoded (freshSystem 2))) ≡ noSystem
 unfolding systemIn encoded concatenated processBytes variablesBytes recordBytes pendingBytes channelBytes slotBytes messageBytes freshSystem freshProcess freshVariables everyone withEntry put emptyChannel pick
 wrong-length = refl

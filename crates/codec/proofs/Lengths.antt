@@ -16,7 +16,7 @@ use Rattle.system.specs.declared.Process.{Process}
 use Rattle.system.specs.declared.System.{System}
 use Rattle.system.proofs.Process as process
 use Rattle.system.proofs.System as system
-use Rattle.image.specs.Image.{messageWidth, channelWidth, recordWidth, recordsPlace, historyPlace, processWidth, processesPlace, channelsPlace, rows, byte, slotIn, channelIn, recordIn, historyIn, processIn, decoded}
+use Rattle.image.specs.Image.{messageWidth, channelWidth, recordWidth, recordsPlace, historyPlace, processWidth, processesPlace, channelsPlace, trustPlace, rows, byte, slotIn, channelIn, recordIn, historyIn, processIn, decoded}
 
 pub record ProcessLengths (x : Process) : Type 0 where
   pub pending : length (x .pending) ≡ 8
@@ -28,6 +28,7 @@ pub record ChannelLengths (c : Channel) : Type 0 where
 pub record Lengths (s : System) : Type 0 where
   pub processes : length (s .processes) ≡ 8
   pub channels : length (s .channels) ≡ 64
+  pub trust : length (s .trust) ≡ 8
   pub each-process : Each ProcessLengths (s .processes)
   pub each-channel : Each ChannelLengths (s .channels)
 
@@ -50,6 +51,7 @@ value-lengths s vs p =
     record {
       processes = search long;
       channels = search long;
+      trust = search long;
       each-process = each-value _ _ ProcessLengths process-value (s .processes) _ (p .1 .1 .1 .0 .1 .1);
       each-channel = each-value _ _ ChannelLengths channel-value (s .channels) _ (p .1 .1 .1 .1 .0 .1 .1);
     }
@@ -79,6 +81,7 @@ decoded-lengths b =
     record {
       processes = rows-length 8 processWidth processIn (drop processesPlace b);
       channels = rows-length 64 channelWidth channelIn (drop channelsPlace b);
+      trust = rows-length 8 1 (byte 0) (drop trustPlace b);
       each-process = each-row ProcessLengths 8 processWidth processIn process-read (drop processesPlace b);
       each-channel = each-row ChannelLengths 64 channelWidth channelIn channel-read (drop channelsPlace b);
     }

@@ -8,7 +8,7 @@ ghost use lib.ListN.{length, drop};
 ghost use Rattle.view.specs.Logic.{pick};
 ghost use Rattle.channel.specs.Channel.{emptyChannel};
 ghost use Rattle.system.specs.Fresh.{freshSystem};
-ghost use Rattle.image.specs.Image.{channelWidth, variablesWidth, processWidth, imageWidth, channelBytes, variablesBytes, processBytes, encoded, byte, channelIn, historyIn, variablesIn, processIn, decoded};
+ghost use Rattle.image.specs.Image.{channelWidth, variablesWidth, processWidth, imageWidth, channelBytes, variablesBytes, processBytes, encoded, rows, byte, channelIn, historyIn, variablesIn, processIn, decoded};
 ghost use Rattle.codec.specs.Put.{Put};
 use channel::Channel;
 use channel::Slot;
@@ -22,6 +22,7 @@ use image::PROCESS;
 use image::PROCESSES;
 use image::RECORD;
 use image::RECORDS;
+use image::TRUST;
 use image::Three;
 use image::flag_byte;
 use image::message_bytes;
@@ -131,6 +132,19 @@ fn read_process(image: &[u8], at: usize) -> Process
     }
 }
 
+fn read_trust(image: &[u8], at: usize) -> [u8; 8]
+    requires { ⌜ at + 8 ≤ length (now image) ⌝ }
+    ensures { λ r. ⌜ r ≡ rows 8 1 (byte 0) (drop at (now (image .entry))) ⌝ }
+{
+    let mut trust = [0u8; 8];
+    let mut i: usize = 0;
+    while i < 8 {
+        trust[i] = image[at + i];
+        i += 1;
+    }
+    trust
+}
+
 // The system that an image holds; of bytes of another length, the fresh system of no process.
 pub fn decode(image: &[u8]) -> System
     ensures { λ r. ⌜ r ≡ pick (eqb (length (now (image .entry))) imageWidth) (decoded (now (image .entry))) (freshSystem 0) ⌝ }
@@ -148,6 +162,8 @@ pub fn decode(image: &[u8]) -> System
             s.channels[j] = read_channel(image, CHANNELS + CHANNEL * j);
             j += 1;
         }
+        let trust = read_trust(image, TRUST);
+        s.trust = trust;
         s.n = image[0];
         return s;
     }
@@ -218,6 +234,17 @@ fn put_process(image: &mut [u8], at: usize, p: Process)
     put_history(image, at + HISTORY, h);
 }
 
+fn put_trust(image: &mut [u8], at: usize, trust: [u8; 8])
+    requires { ⌜ at + 8 ≤ length (now image) ⌝ }
+    ensures { λ r. ⌜ Put (now (image .entry)) at trust (now (image .exit)) (at + 8) ⌝ }
+{
+    let mut i: usize = 0;
+    while i < 8 {
+        image[at + i] = trust[i];
+        i += 1;
+    }
+}
+
 // The image of a system; bytes of another length stay as they are.
 pub fn encode(s: System, image: &mut [u8])
     ensures { λ r. ⌜ now (image .exit) ≡ pick (eqb (length (now (image .entry))) imageWidth) (encoded s) (now (image .entry)) ⌝ }
@@ -236,5 +263,7 @@ pub fn encode(s: System, image: &mut [u8])
             put_channel(image, CHANNELS + CHANNEL * j, c);
             j += 1;
         }
+        let trust = s.trust;
+        put_trust(image, TRUST, trust);
     }
 }

@@ -23,7 +23,7 @@ use Rattle.step.proofs.Frames.{Shape}
 use Rattle.step.proofs.Soundness.{Valid}
 use Rattle.step.proofs.Inversion.{sound-stepped}
 use Rattle.step.proofs.SoundSteps.{step-sound}
-use Rattle.image.specs.Image.{rows, processIn, channelIn, decoded, noSystem, systemIn, imageWidth, processWidth, channelWidth}
+use Rattle.image.specs.Image.{rows, byte, processIn, channelIn, decoded, noSystem, systemIn, imageWidth, processWidth, channelWidth}
 use Rattle.image.proofs.Shape.{rows-long, slots-long, pending-long, entries-long}
 use Rattle.engine.specs.Engine.{Gives, Attempts}
 
@@ -32,12 +32,15 @@ pub no-system : soundSystem noSystem ≡ false
 unfolding soundSystem noSystem
 no-system = refl
 
-shape-in : (b : List ℕ) → soundSystem (systemIn b) ≡ true → (length (systemIn b .processes) ≡ 8) × (length (systemIn b .channels) ≡ 64)
+abbrev Arrays : System → Type 0
+Arrays s = (length (s .processes) ≡ 8) × (length (s .channels) ≡ 64) × (length (s .trust) ≡ 8)
+
+shape-in : (b : List ℕ) → soundSystem (systemIn b) ≡ true → Arrays (systemIn b)
 unfolding systemIn decoded pick
 shape-in b sound = go (eqb (length b) imageWidth) sound
   where
-    go : (t : Bool) → soundSystem (pick t (decoded b) noSystem) ≡ true → (length (pick t (decoded b) noSystem .processes) ≡ 8) × (length (pick t (decoded b) noSystem .channels) ≡ 64)
-    go true e = (rows-long 8 processWidth processIn _, rows-long 64 channelWidth channelIn _)
+    go : (t : Bool) → soundSystem (pick t (decoded b) noSystem) ≡ true → Arrays (pick t (decoded b) noSystem)
+    go true e = (rows-long 8 processWidth processIn _, rows-long 64 channelWidth channelIn _, rows-long 8 1 (byte 0) _)
     go false e = true-is-not-false (sym e ∙ no-system)
 
 valid-in : (b : List ℕ) → soundSystem (systemIn b) ≡ true → Valid (systemIn b)
@@ -50,6 +53,7 @@ valid-in b sound =
             slots = slots-long b;
             pending = pending-long b;
             entries = entries-long b;
+            trust = shape-in b sound .2;
           };
       sound = sound;
     }

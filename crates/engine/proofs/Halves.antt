@@ -15,7 +15,8 @@ use Rattle.view.proofs.Sets.{has-number}
 use Rattle.view.proofs.Table.{everyBelow, below}
 use Rattle.channel.specs.declared.Message.{Message}
 use Rattle.system.specs.declared.System.{System}
-use Rattle.system.specs.System.{sentIfNamed, broadcasted, takesIfNamed, roomFor}
+use Rattle.system.specs.System.{withTrust, sentIfNamed, broadcasted, takesIfNamed, roomFor}
+use Rattle.step.specs.Step.{suspectedIfNamed, doubted}
 
 -- a view halved i times
 unfoldable pub halved : ℕ → ℕ → ℕ
@@ -87,3 +88,9 @@ all-told q v m s i h l none = each-idle (sentIfNamed q v m) i 8 l (λ k past t. 
 pub all-asked : (s : System) (q v i : ℕ) → v < 256 → i ≤ 8 → halved i v ≡ 0 → allUpTo i (takesIfNamed s q v) ≡ roomFor s q v
 unfolding roomFor takesIfNamed
 all-asked s q v i h l none = all-idle (takesIfNamed s q v) i 8 l (λ k past. rw (not-named v i k h l none past))
+
+-- ---- and those who are suspected
+pub all-doubted : (s : System) (p v i : ℕ) → v < 256 → i ≤ 8 → halved i v ≡ 0
+    → withTrust s (eachUpTo i (suspectedIfNamed s p v) (s .trust)) ≡ doubted s p v
+unfolding doubted suspectedIfNamed pick
+all-doubted s p v i h l none = ap (withTrust s) (each-idle (suspectedIfNamed s p v) i 8 l (λ k past t. rw (not-named v i k h l none past)) (s .trust))

@@ -9,8 +9,9 @@ use native.Mathlib.Nat.{lt-of-not-le}
 use borrow.Author.Tests.{lt-ltb, le-ltb, eq-eqb, ne-eqb, eqb-true}
 use lib.Dec.{eqb, ltb}
 use lib.ListN.{length}
-use Rattle.view.specs.Logic.{pick, at, put, isOneOf}
-use Rattle.view.proofs.Laws.{by-pick, by-number, and-left, and-right, and-intro, one-of, is-one-of, at-put-same, at-put-other, at-past, put-past, put-again}
+use Rattle.view.specs.Logic.{pick, eachUpTo, at, put, isOneOf}
+use Rattle.view.specs.View.{has}
+use Rattle.view.proofs.Laws.{by-pick, by-number, and-left, and-right, and-intro, one-of, is-one-of, at-put-same, at-put-other, at-past, put-past, put-again, each-more}
 use Rattle.channel.specs.declared.Channel.{Channel}
 use Rattle.channel.specs.Channel.{emptyChannel, hasRoom, popped}
 use Rattle.system.specs.declared.History.{History}
@@ -18,27 +19,27 @@ use Rattle.system.specs.declared.Variables.{Variables}
 use Rattle.system.specs.declared.Process.{Process}
 use Rattle.system.specs.declared.System.{System}
 use Rattle.system.specs.Process.{withEntry, withPending, withVariables, withHistory}
-use Rattle.system.specs.System.{noProcess, processAt, variablesAt, withProcess, channelNumber, channelAt, withChannel, broadcasted}
+use Rattle.system.specs.System.{noProcess, processAt, variablesAt, withProcess, channelNumber, channelAt, withChannel, withTrust, trusting, broadcasted}
 use Rattle.system.proofs.Laws.{number-in, number-out, number-found}
 use Rattle.plan.specs.declared.Change.{Change}
 use Rattle.plan.specs.declared.Plan.{Plan}
 use Rattle.plan.specs.declared.Scope.{Scope}
 use Rattle.plan.specs.Plan.{changed}
-use Rattle.step.specs.Step.{takenOff, crashedIf, effected}
+use Rattle.step.specs.Step.{takenOff, departed, suspectedIfNamed, doubted, changedAt, crashedIf, effected}
 
 -- ---- a process is replaced, and replaced again by what is made of it
 process-again : (s : System) (p : ℕ) (x : Process) (f : Process → Process)
     → withProcess (withProcess s p x) p (f (processAt (withProcess s p x) p)) ≡ withProcess s p (f x)
 unfolding withProcess processAt
-process-again s p x f = ap (λ (l : List Process). record { n = s .n; processes = l; channels = s .channels }) (put-again (s .processes) p x noProcess f)
+process-again s p x f = ap (λ (l : List Process). record { n = s .n; processes = l; channels = s .channels; trust = s .trust }) (put-again (s .processes) p x noProcess f)
 
 -- its variables, then a record, then an entry: that is the change
 pub change-made : (s t u v : System) (p : ℕ) (c : Change)
     → t ≡ withProcess s p (withVariables (processAt s p) (c .variables))
     → u ≡ withProcess t p (withPending (processAt t p) (c .proposer .0) (c .pending))
     → v ≡ withProcess u p (withHistory (processAt u p) (withEntry (processAt u p .history) (c .index .0) (c .entry)))
-    → v ≡ withProcess s p (changed (processAt s p) c)
-unfolding changed withVariables withPending withHistory
+    → v ≡ changedAt s p c
+unfolding changedAt changed withVariables withPending withHistory
 change-made s t u v p c first second third =
     let two = rw first at second ∙ process-again s p _ (λ y. withPending y (c .proposer .0) (c .pending)) in
     rw two at third ∙ process-again s p _ (λ y. withHistory y (withEntry (y .history) (c .index .0) (c .entry)))
@@ -156,12 +157,33 @@ takes-is s c k len e = rw e (go (c .takes))
     go true = sym (room-off s (c .partner .0) (c .actor .0) k)
     go false = or-false _
 
--- the parts of carrying a plan out, in sequence
-pub effect-made : (s t u v w : System) (c : Scope) (a : Plan)
+-- ---- trust
+-- q leaves p's view, and then the mark (q, p) is on
+pub suspect-made : (s t u : System) (p d q : ℕ) → has d q ≡ true
+    → t ≡ withTrust s (departed s p q (s .trust))
+    → u ≡ withTrust t (trusting (t .trust) q p true)
+    → u ≡ withTrust s (suspectedIfNamed s p d q (s .trust))
+unfolding suspectedIfNamed withTrust pick
+suspect-made s t u p d q named first second = rw named (second ∙ ap (λ (x : System). withTrust x (trusting (x .trust) q p true)) first)
+
+-- once each of 1 to k has had its turn, one more
+pub doubt-more : (s t u : System) (p d k : ℕ)
+    → t ≡ withTrust s (eachUpTo k (suspectedIfNamed s p d) (s .trust))
+    → u ≡ withTrust t (suspectedIfNamed t p d (k + 1) (t .trust))
+    → u ≡ withTrust s (eachUpTo (k + 1) (suspectedIfNamed s p d) (s .trust))
+unfolding withTrust suspectedIfNamed departed processAt
+doubt-more s t u p d k before one =
+    one
+    ∙ ap (λ (x : System). withTrust x (suspectedIfNamed x p d (k + 1) (x .trust))) before
+    ∙ ap (withTrust s) (sym (each-more k (suspectedIfNamed s p d) (s .trust)))
+
+-- ---- the parts of carrying a plan out, in sequence
+pub effect-made : (s t d u v w : System) (c : Scope) (a : Plan)
     → t ≡ takenOff s c
-    → u ≡ withProcess t (c .actor .0) (changed (processAt t (c .actor .0)) (a .change))
+    → d ≡ doubted t (c .actor .0) (a .suspects)
+    → u ≡ changedAt d (c .actor .0) (a .change)
     → v ≡ broadcasted u (c .actor .0) (a .addressees) (a .message)
     → w ≡ crashedIf (a .stops) v (c .actor .0)
     → w ≡ effected (takenOff s c) (c .actor .0) a
 unfolding effected
-effect-made s t u v w c a off changes sends stops = rw (← off, ← changes, ← sends) stops
+effect-made s t d u v w c a off doubts changes sends stops = rw (← off, ← doubts, ← changes, ← sends) stops

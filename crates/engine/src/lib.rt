@@ -4,10 +4,9 @@ ghost use mathlib.Core.Path.{_≡_};
 ghost use mathlib.Core.Bool.{_&&_, _||_};
 ghost use Rattle.view.specs.Logic.{pick, isOneOf};
 ghost use Rattle.channel.specs.Channel.{hasRoom};
-ghost use Rattle.system.specs.System.{processAt, variablesAt, withProcess, channelAt, sentIfNamed, broadcasted, roomFor};
+ghost use Rattle.system.specs.System.{variablesAt, channelAt, withTrust, trusting, sentIfNamed, broadcasted, roomFor};
 ghost use Rattle.sound.specs.Sound.{soundSystem};
-ghost use Rattle.plan.specs.Plan.{changed};
-ghost use Rattle.step.specs.Step.{planOf, takenOff, crashedAt, crashedIf, effected, stepped};
+ghost use Rattle.step.specs.Step.{planOf, takenOff, departed, suspectedIfNamed, doubted, changedAt, crashedAt, crashedIf, effected, stepped};
 ghost use Rattle.image.specs.Image.{systemIn};
 ghost use Rattle.engine.specs.Engine.{Gives, Attempts, cutOf, orderOf, orderAt, orderCount, obeyed, Performs};
 use channel::Message;
@@ -19,8 +18,10 @@ use image::pop;
 use image::push;
 use image::put_entry;
 use image::put_pending;
+use image::put_trust;
 use image::put_variables;
 use image::size;
+use image::trust_at;
 use image::variables_at;
 use plan::Action;
 use plan::Change;
@@ -41,13 +42,17 @@ use view::and;
 use view::has;
 use view::is_one_of;
 use view::or;
+use view::switched;
 
 // What the acting process plans, where it is not cut.
 fn plan_of(image: &[u8], o: Action) -> Plan
     ensures { λ r. ⌜ r ≡ planOf (systemIn (now (image .entry))) o ⌝ }
 {
     match o {
-        Action::Report(p, view) => plan::report_plan(size(image), p, view, variables_at(image, p)),
+        Action::Report(p, view) => {
+            let x = variables_at(image, p);
+            plan::report_plan(size(image), p, view, x, trust_at(image, p))
+        }
         Action::Receive(q, p) => {
             plan::receive_plan(q, p, variables_at(image, p), front_at(image, q, p))
         }
@@ -144,9 +149,51 @@ fn crash(image: &mut [u8], p: ProcessId)
     }
 }
 
+// Process p may trust process q again, or may not.
+fn trust(image: &mut [u8], p: ProcessId, q: ProcessId, on: bool)
+    ensures { λ r. ⌜ systemIn (now (image .exit)) ≡ withTrust (systemIn (now (image .entry))) (trusting (systemIn (now (image .entry)) .trust) (p .0) (q .0) on) ⌝ }
+{
+    let set = trust_at(image, p);
+    put_trust(image, p, switched(set, q, on));
+}
+
+// Process q leaves the view of process p, where it is there.
+fn depart(image: &mut [u8], p: ProcessId, q: ProcessId)
+    ensures { λ r. ⌜ systemIn (now (image .exit)) ≡ withTrust (systemIn (now (image .entry))) (departed (systemIn (now (image .entry))) (p .0) (q .0) (systemIn (now (image .entry)) .trust)) ⌝ }
+{
+    let x = variables_at(image, p);
+    if has(x.view, q) {
+        let y = variables_at(image, q);
+        trust(image, p, q, !has(y.view, p));
+    }
+}
+
+// Process p comes to lack process q, or goes on to, where it is one of a set.
+fn suspect_if_named(image: &mut [u8], p: ProcessId, suspects: u8, q: ProcessId)
+    ensures { λ r. ⌜ systemIn (now (image .exit)) ≡ withTrust (systemIn (now (image .entry))) (suspectedIfNamed (systemIn (now (image .entry))) (p .0) suspects (q .0) (systemIn (now (image .entry)) .trust)) ⌝ }
+{
+    if has(suspects, q) {
+        depart(image, p, q);
+        trust(image, q, p, true);
+    }
+}
+
+// Process p, whose view is still the old one, comes to lack the processes of a set, or goes on to.
+fn doubt(image: &mut [u8], p: ProcessId, suspects: u8)
+    ensures { λ r. ⌜ systemIn (now (image .exit)) ≡ doubted (systemIn (now (image .entry))) (p .0) suspects ⌝ }
+{
+    let mut rest = suspects;
+    let mut i: u8 = 0;
+    while rest != 0 {
+        rest = rest / 2;
+        i += 1;
+        suspect_if_named(image, p, suspects, ProcessId(i));
+    }
+}
+
 // Process p changes as its plan says.
 fn change(image: &mut [u8], p: ProcessId, c: Change)
-    ensures { λ r. ⌜ systemIn (now (image .exit)) ≡ withProcess (systemIn (now (image .entry))) (p .0) (changed (processAt (systemIn (now (image .entry))) (p .0)) c) ⌝ }
+    ensures { λ r. ⌜ systemIn (now (image .exit)) ≡ changedAt (systemIn (now (image .entry))) (p .0) c ⌝ }
 {
     let x = c.variables;
     let q = c.proposer;
@@ -185,6 +232,7 @@ fn carry_out(image: &mut [u8], c: Scope, a: Plan)
     let y = a.change;
     let m = a.message;
     take_off(image, c);
+    doubt(image, p, a.suspects);
     change(image, p, y);
     broadcast(image, p, a.addressees, m);
     crash_if(image, a.stops, p);

@@ -1,4 +1,4 @@
--- Zeros are the image of a system of blank processes and empty channels.
+-- Zeros are the image of a system of blank processes and empty channels, in which nobody may trust anyone again.
 use Prim.Native.Nat.{ℕ, zero, suc, _+_, _<_}
 use mathlib.Core.Path.{_≡_, refl, _∙_}
 use mathlib.Core.List.{List}
@@ -14,7 +14,7 @@ use Rattle.system.specs.declared.Pending.the-variants.{Nothing}
 use Rattle.system.specs.Process.{pendingSlot, withVariables, withEntry, withHistory}
 use Rattle.system.specs.System.{noProcess, processAt, withProcess}
 use Rattle.system.specs.Fresh.{freshProcess, freshSystem, freshVariables}
-use Rattle.image.specs.Image.{messageWidth, lengthPlace, channelWidth, recordWidth, recordsPlace, historyPlace, processWidth, processesPlace, channelsPlace, imageWidth, rows, byte, messageOf, slotIn, channelIn, pendingOf, recordIn, historyIn, variablesOf, variablesIn, processIn, decoded, systemIn}
+use Rattle.image.specs.Image.{messageWidth, lengthPlace, channelWidth, recordWidth, recordsPlace, historyPlace, processWidth, processesPlace, channelsPlace, trustPlace, imageWidth, rows, byte, messageOf, slotIn, channelIn, pendingOf, recordIn, historyIn, variablesOf, variablesIn, processIn, decoded, systemIn}
 use Rattle.image.proofs.Laws.{an-image}
 use Rattle.fresh.specs.Fresh.{blankSystem, withFresh}
 
@@ -81,6 +81,7 @@ blank-held b c n h f =
       getD-set-same c 0 n 0 (omega (arith, f .long)),
       blank-rows processIn noProcess blank-process 8 processWidth _ (rest processesPlace (omega arith)),
       blank-rows channelIn emptyChannel blank-channel 64 channelWidth _ (rest channelsPlace (omega arith)),
+      blank-rows (byte 0) 0 (λ d y. y 0) 8 1 _ (rest trustPlace (omega arith)),
     )
   where
     all : Zeros c

@@ -9,7 +9,7 @@ use Rattle.system.specs.Fresh.{freshVariables}
 
 -- what zeros hold, with n for the first
 unfoldable pub blankSystem : ℕ → System
-blankSystem n = record { n = n; processes = replicate 8 noProcess; channels = replicate 64 emptyChannel }
+blankSystem n = record { n = n; processes = replicate 8 noProcess; channels = replicate 64 emptyChannel; trust = replicate 8 0 }
 
 -- process p with the variables of a fresh one of n, and its first entry
 unfoldable pub withFresh : ℕ → ℕ → System → System

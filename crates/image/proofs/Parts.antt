@@ -6,8 +6,8 @@ use mathlib.Core.Logic.{inl, inr, ⊎-elim}
 use native.Mathlib.Nat.{add-zero, one-mul}
 use native.Mathlib.Omega.{arith}
 use lib.Dec.{eqb}
-use lib.ListN.{length, drop}
-use lib.Seq.{getD-drop, drop-drop}
+use lib.ListN.{length, drop, set, length-set}
+use lib.Seq.{getD-drop, getD-set-same, drop-drop}
 use Rattle.view.specs.Logic.{at, put, placeOf}
 use Rattle.view.proofs.Laws.{by-pick, at-replicate}
 use Rattle.channel.specs.declared.Slot.{Slot}
@@ -18,11 +18,11 @@ use Rattle.system.specs.declared.Variables.{Variables}
 use Rattle.system.specs.declared.Process.{Process}
 use Rattle.system.specs.declared.Pending.the-variants.{Nothing}
 use Rattle.system.specs.Process.{noVariables, entryAt, pendingSlot, pendingAt}
-use Rattle.system.specs.System.{noProcess, processAt, variablesAt, withProcess, channelNumber, channelAt, withChannel}
-use Rattle.image.specs.Image.{messageWidth, lengthPlace, channelWidth, recordWidth, variablesWidth, recordsPlace, historyPlace, processWidth, processesPlace, channelsPlace, imageWidth, rows, byte, messageOf, slotIn, channelIn, pendingOf, recordIn, historyIn, variablesOf, variablesIn, processIn, decoded, noSystem, systemIn}
+use Rattle.system.specs.System.{noProcess, processAt, variablesAt, withProcess, channelNumber, channelAt, withChannel, trustAt, withTrust}
+use Rattle.image.specs.Image.{messageWidth, lengthPlace, channelWidth, recordWidth, variablesWidth, recordsPlace, historyPlace, processWidth, processesPlace, channelsPlace, trustPlace, imageWidth, rows, byte, messageOf, slotIn, channelIn, pendingOf, recordIn, historyIn, variablesOf, variablesIn, processIn, decoded, noSystem, systemIn}
 use Rattle.image.specs.declared.Three.{Three}
 use Rattle.image.specs.Rows.{RowAt, ThreeAt}
-use Rattle.image.proofs.Laws.{Local, Outside, part-same, kept, rows-length, rows-local, row-at, no-row, row-put, no-put, an-image, no-image}
+use Rattle.image.proofs.Laws.{Local, Outside, unchanged, written, part-same, kept, rows-length, rows-local, row-at, no-row, row-put, no-put, an-image, no-image}
 
 -- ---- each part looks at its own bytes only
 pub slot-local : Local messageWidth slotIn
@@ -95,6 +95,7 @@ module _ (b : List ℕ) (p r : ℕ) (row : RowAt processesPlace processWidth 8 b
         an-image c (long ∙ f .0),
         o .before 0 (omega arith),
         kept (rows-local channelIn channelWidth channel-local 64) o channelsPlace (inr (omega arith)),
+        kept (rows-local (byte 0) 1 byte-local 8) o trustPlace (inr (omega arith)),
         f .2,
         row-put processIn processWidth 8 processesPlace p (placeOf 8 p) b refl c process-local (f .1) (rw (← f .2) o),
       )
@@ -188,6 +189,7 @@ module _ (b : List ℕ) (q p r : ℕ) (row : RowAt channelsPlace channelWidth 64
         an-image c (long ∙ f .0),
         o .before 0 (omega arith),
         kept (rows-local processIn processWidth process-local 8) o processesPlace (inl (omega arith)),
+        kept (rows-local (byte 0) 1 byte-local 8) o trustPlace (inr (omega arith)),
         f .2,
         row-put channelIn channelWidth 64 channelsPlace (channelNumber q p) (placeOf 64 (channelNumber q p)) b refl c channel-local (f .1) (rw (← f .2) o),
       )
@@ -217,6 +219,49 @@ module _ (b : List ℕ) (q p r : ℕ) (row : RowAt channelsPlace channelWidth 64
   pub no-channel-message : imageWidth ≤ r → (k : ℕ) → blank .message ≡ at (channelAt (systemIn b) q p .slots) k blank .message
   unfolding emptyChannel
   no-channel-message h k = sym (ap (λ y. at (y .slots) k blank .message) (no-channel h) ∙ ap (λ (y : Slot). y .message) (at-replicate 8 k blank))
+
+-- the set of those that process p may trust again
+module _ (b : List ℕ) (p r : ℕ) (row : RowAt trustPlace 1 8 b p r) where
+  pub trust-read : r < imageWidth → byte r b ≡ trustAt (systemIn b) p
+  unfolding trustAt decoded
+  trust-read h =
+      let f = row .found h in
+      sym (
+      rw (an-image b (f .0), f .2)
+      (row-at (byte 0) 1 8 trustPlace p (placeOf 8 p) b refl 0 (f .1) ∙ simp (getD-drop, add-zero))
+      )
+
+  pub no-trust : imageWidth ≤ r → 0 ≡ trustAt (systemIn b) p
+  unfolding trustAt decoded noSystem
+  no-trust h =
+      sym (
+      ⊎-elim (λ e. rw (no-image b e) (none-at p 0)) (λ f. rw (an-image b (f .0)) (no-row (byte 0) 1 8 trustPlace p (placeOf 8 p) b refl 0 (f .1)))
+      (row .missing h)
+      )
+
+  pub trust-put : (x : ℕ) → r < imageWidth → systemIn (set b r x) ≡ withTrust (systemIn b) (put (systemIn b .trust) p x)
+  unfolding decoded withTrust
+  trust-put x h =
+      let f = row .found h in
+      let o : Outside r (r + 1) b (set b r x) = written r x (omega arith) (omega arith) unchanged in
+      rw (
+        an-image b (f .0),
+        an-image (set b r x) (length-set b r x ∙ f .0),
+        o .before 0 (omega arith),
+        kept (rows-local processIn processWidth process-local 8) o processesPlace (inl (omega arith)),
+        kept (rows-local channelIn channelWidth channel-local 64) o channelsPlace (inl (omega arith)),
+        row-put (byte 0) 1 8 trustPlace p (placeOf 8 p) b refl (set b r x) byte-local (f .1) (rw (← f .2) o),
+        ← f .2,
+        getD-drop r (set b r x) 0 0,
+        add-zero r,
+        getD-set-same b r x 0 (omega arith),
+      )
+
+  pub no-trust-put : (x : ℕ) → imageWidth ≤ r → systemIn b ≡ withTrust (systemIn b) (put (systemIn b .trust) p x)
+  unfolding decoded noSystem withTrust
+  no-trust-put x h =
+      ⊎-elim (λ e. rw (no-image b e, ← none-put p x)) (λ f. rw (an-image b (f .0), ← no-put (byte 0) 1 8 trustPlace p (placeOf 8 p) b refl x (f .1)))
+      (row .missing h)
 
 -- ---- every channel that is read has eight slots
 rows-each : {A : Type 0} (P : A → Type 0) (d : A) (f : List ℕ → A) → P d → ((b : List ℕ) → P (f b)) → (n w : ℕ) (b : List ℕ) (k : ℕ) → P (at (rows n w f b) k d)

@@ -1,5 +1,5 @@
--- The image of a system: 2,097 bytes, in which it is kept. One byte is n; eight processes of 62 bytes follow, and then sixty-four
--- channels of 25 bytes. docs/IMAGE.md has the layout as a table.
+-- The image of a system: 2,105 bytes, in which it is kept. One byte is n; eight processes of 62 bytes follow, then sixty-four channels
+-- of 25 bytes, and eight sets of trust of one byte. docs/IMAGE.md has the layout as a table.
 use Prim.Native.Nat.{ℕ, zero, suc, _+_, _*_}
 use mathlib.Core.Path.{_≡_}
 use mathlib.Core.List.{List, [], _∷_, _++_}
@@ -52,8 +52,11 @@ processesPlace = 1
 abbrev pub channelsPlace : ℕ
 channelsPlace = processesPlace + 8 * processWidth
 
+abbrev pub trustPlace : ℕ
+trustPlace = channelsPlace + 64 * channelWidth
+
 abbrev pub imageWidth : ℕ
-imageWidth = channelsPlace + 64 * channelWidth
+imageWidth = trustPlace + 8
 
 -- ---- from a system to its image
 -- the bytes of each part, one part after the other
@@ -87,7 +90,7 @@ unfoldable pub processBytes : Process → List ℕ
 processBytes x = variablesBytes (x .variables) ++ concatenated recordBytes (x .pending) ++ x .history .entries
 
 unfoldable pub encoded : System → List ℕ
-encoded s = (s .n ∷ []) ++ concatenated processBytes (s .processes) ++ concatenated channelBytes (s .channels)
+encoded s = (s .n ∷ []) ++ concatenated processBytes (s .processes) ++ concatenated channelBytes (s .channels) ++ s .trust
 
 -- ---- from an image to the system: every list of so many bytes is some system
 -- n rows, one after the other, each of w bytes
@@ -153,11 +156,12 @@ decoded b =
       n = byte 0 b;
       processes = rows 8 processWidth processIn (drop processesPlace b);
       channels = rows 64 channelWidth channelIn (drop channelsPlace b);
+      trust = rows 8 1 (byte 0) (drop trustPlace b);
     }
 
 -- bytes of another length hold no system: no process and no channel is read there, and none can be replaced
 unfoldable pub noSystem : System
-noSystem = record { n = 0; processes = []; channels = [] }
+noSystem = record { n = 0; processes = []; channels = []; trust = [] }
 
 -- the system that bytes hold
 unfoldable pub systemIn : List ℕ → System

@@ -5,12 +5,12 @@ ghost use mathlib.Core.Path.{_≡_};
 ghost use mathlib.Core.List.{[], _∷_};
 ghost use Prim.Native.Nat.{_+_, _≤_};
 ghost use lib.ListN.{length};
-ghost use Rattle.view.specs.Logic.{pick, at};
+ghost use Rattle.view.specs.Logic.{pick, at, put};
 ghost use Rattle.channel.specs.Channel.{emptyChannel, blank, front, pushed, popped};
 ghost use Rattle.system.specs.Process.{entryAt, withEntry, pendingAt, withPending, withVariables, withHistory};
-ghost use Rattle.system.specs.System.{processAt, variablesAt, withProcess, channelNumber, channelAt, withChannel};
+ghost use Rattle.system.specs.System.{processAt, variablesAt, withProcess, channelNumber, channelAt, withChannel, trustAt, withTrust};
 ghost use Rattle.image.specs.Image.{messageBytes, pendingBytes, messageOf, pendingOf, variablesOf, systemIn, Becomes};
-ghost use Rattle.image.specs.Image.{processesPlace, processWidth, channelsPlace, channelWidth};
+ghost use Rattle.image.specs.Image.{processesPlace, processWidth, channelsPlace, channelWidth, trustPlace};
 ghost use Rattle.image.specs.Rows.{RowAt, ThreeAt, withThree};
 use channel::Front;
 use channel::Message;
@@ -39,7 +39,9 @@ pub const PROCESSES: usize = 1;
 
 pub const CHANNELS: usize = PROCESSES + 8 * PROCESS;
 
-pub const IMAGE: usize = CHANNELS + 64 * CHANNEL;
+pub const TRUST: usize = CHANNELS + 64 * CHANNEL;
+
+pub const IMAGE: usize = TRUST + 8;
 
 // Three bytes: a tag and its two operands.
 pub struct Three(pub u8, pub u8, pub u8);
@@ -364,5 +366,34 @@ pub fn clear(image: &mut [u8], q: ProcessId, p: ProcessId)
             image[base + i] = 0;
             i += 1;
         }
+    }
+}
+
+// Where the set of those stands that process p may trust again; IMAGE where there is none.
+fn trust_place(image: &[u8], p: ProcessId) -> usize
+    ensures { λ r. ⌜ RowAt trustPlace 1 8 (now (image .entry)) (p .0) r ⌝ }
+{
+    let k = place(8, p.0);
+    if image.len() == IMAGE {
+        if k < 8 { TRUST + k } else { IMAGE }
+    } else {
+        IMAGE
+    }
+}
+
+// The processes that process p may trust again.
+pub fn trust_at(image: &[u8], p: ProcessId) -> u8
+    ensures { λ r. ⌜ r ≡ trustAt (systemIn (now (image .entry))) (p .0) ⌝ }
+{
+    let at = trust_place(image, p);
+    if at < IMAGE { image[at] } else { 0 }
+}
+
+pub fn put_trust(image: &mut [u8], p: ProcessId, set: u8)
+    ensures { λ r. ⌜ Becomes (withTrust (systemIn (now (image .entry))) (put (systemIn (now (image .entry)) .trust) (p .0) set)) (now (image .entry)) (now (image .exit)) ⌝ }
+{
+    let at = trust_place(image, p);
+    if at < IMAGE {
+        image[at] = set;
     }
 }

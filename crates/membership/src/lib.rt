@@ -15,10 +15,10 @@ use system::System;
 use view::ProcessId;
 
 // The bytes for an image.
-fn image_buffer() -> [u8; 2097]
+fn image_buffer() -> [u8; 2105]
     ensures { λ r. ⌜ length r ≡ imageWidth ⌝ }
 {
-    [0; 2097]
+    [0; 2105]
 }
 
 // One step of any kind, whole or cut.

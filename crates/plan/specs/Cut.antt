@@ -24,7 +24,7 @@ unfoldable pub cutShort : ℕ → Plan → Plan
 cutShort k a =
     unless (eqb (a .refusal) 0) a
     (unless (ltb k (countOf (a .addressees))) (refusing 12 (a .change .variables))
-    (plan 0 (a .change) true (firstOf k (a .addressees)) (a .message)))
+    (plan 0 (a .change) true (firstOf k (a .addressees)) (a .message) (a .suspects)))
 
 -- the plan of a step, whose action has the plan a
 unfoldable pub cutBy : Cut → Plan → Plan

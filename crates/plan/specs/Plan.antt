@@ -4,7 +4,7 @@ use Prim.Native.Nat.{ℕ, _+_}
 use mathlib.Core.Bool.{Bool, true, false, _&&_, not}
 use lib.Dec.{leb, ltb, eqb}
 use Rattle.view.specs.Logic.{pick, unless, put}
-use Rattle.view.specs.View.{has, within, subset, with, leastOf}
+use Rattle.view.specs.View.{has, within, subset, with, minus, everyone, leastOf}
 use Rattle.view.specs.declared.ProcessId.{ProcessId}
 use Rattle.channel.specs.declared.Message.{Message}
 use Rattle.channel.specs.declared.Message.the-variants.{Propose, Retry, Acc, Commit}
@@ -43,12 +43,13 @@ changed x c =
     }
 
 -- ---- plans
-abbrev pub plan : ℕ → Change → Bool → ℕ → Message → Plan
-plan k c stops to m = record { refusal = k; change = c; stops = stops; addressees = to; message = m }
+abbrev pub plan : ℕ → Change → Bool → ℕ → Message → ℕ → Plan
+plan k c stops to m suspects =
+    record { refusal = k; change = c; stops = stops; addressees = to; message = m; suspects = suspects }
 
 -- the process changes so, and m goes to each process of the view
 abbrev pub sending : Change → ℕ → Message → Plan
-sending c to m = plan 0 c false to m
+sending c to m = plan 0 c false to m 0
 
 abbrev pub noMessage : Message
 noMessage = Propose 0 (index 0)
@@ -58,19 +59,31 @@ abbrev pub quietly : Change → Plan
 quietly c = sending c 0 noMessage
 
 abbrev pub refusing : ℕ → Variables → Plan
-refusing k x = plan k (assigning x) false 0 noMessage
+refusing k x = plan k (assigning x) false 0 noMessage 0
+
+-- the same plan, by which the process comes to suspect those of a set, or goes on to
+abbrev pub doubting : ℕ → Plan → Plan
+doubting suspects a = plan (a .refusal) (a .change) (a .stops) (a .addressees) (a .message) suspects
 
 -- First guarded command, a report of view v:
 --   local?(v_p); [ p = min(v_p) → PropOut := PropOut + 1; v* := v_p; SN_q! Propose(v*, PropOut) for q in v*; ack := 0
 --   [] else → skip ]
--- Refusal 4: "a report names a unit beyond n, or lacks its own unit". Refusal 6: "by the least unit of its view with PropOut 32".
-unfoldable pub reportPlan : ℕ → ℕ → ℕ → Variables → Plan
-reportPlan n p v x =
-    unless (within n v && has v p) (refusing 4 x)
-    (pick (eqb (leastOf v .0) p)
+-- Refusal 6: "by the least unit of its view with PropOut 32". Whom the new view lacks, of 1 to n, p suspects.
+unfoldable pub newViewPlan : ℕ → ℕ → ℕ → Variables → Plan
+newViewPlan n p v x =
+    pick (eqb (leastOf v .0) p)
     (unless (ltb (x .propout .0) 32) (refusing 6 x)
-    (sending (assigning (proposing x v (x .propout .0 + 1))) v (Propose v (index (x .propout .0 + 1)))))
-    (quietly (assigning (withView x v))))
+    (doubting (minus (everyone n) v)
+    (sending (assigning (proposing x v (x .propout .0 + 1))) v (Propose v (index (x .propout .0 + 1))))))
+    (doubting (minus (everyone n) v) (quietly (assigning (withView x v))))
+
+-- Refusal 4: "a report names a unit beyond n, or lacks its own unit". Refusal 13, of S-5: "a report that brings back a unit q is refused
+-- unless .. q's local view lacked p": unless p, whose set of trust this is, may trust q again.
+unfoldable pub reportPlan : ℕ → ℕ → ℕ → Variables → ℕ → Plan
+reportPlan n p v x trust =
+    unless (within n v && has v p) (refusing 4 x)
+    (unless (subset (minus v (x .view)) trust) (refusing 13 x)
+    (newViewPlan n p v x))
 
 -- Second guarded command, Acc, once the mark is made:
 --   [ ∀ q in v*: ack[q] = 1 → SN_q! Commit(v*, PropOut) for q in v*; ack := 0 [] else → skip ]
@@ -117,4 +130,4 @@ respondPlan q x (Proposal v i) =
 
 -- a stop: nothing changes but that the process stops, and nothing is sent
 abbrev pub crashPlan : Variables → Plan
-crashPlan x = plan 0 (assigning x) true 0 noMessage
+crashPlan x = plan 0 (assigning x) true 0 noMessage 0

@@ -5,7 +5,7 @@ ghost use Rattle.view.specs.Logic.{pick};
 ghost use Rattle.view.specs.View.{with};
 ghost use Rattle.system.specs.Process.{assigned};
 ghost use Rattle.plan.specs.Fields.{withView, withNext, withAcks, proposing, reproposing};
-ghost use Rattle.plan.specs.Plan.{assigning, recording, entering, sending, quietly, refusing, reportPlan, committingPlan, messagePlan, receivePlan, respondPlan, crashPlan};
+ghost use Rattle.plan.specs.Plan.{assigning, recording, entering, sending, quietly, refusing, doubting, newViewPlan, reportPlan, committingPlan, messagePlan, receivePlan, respondPlan, crashPlan};
 ghost use Rattle.plan.specs.Scope.{scopeOf};
 ghost use Rattle.plan.specs.Cut.{cutShort, cutBy};
 use channel::Front;
@@ -13,6 +13,7 @@ use channel::Message;
 use system::Pending;
 use system::Variables;
 use system::refusal::CUT_TOO_LATE;
+use system::refusal::EARLY_TRUST;
 use system::refusal::HISTORY_FULL;
 use system::refusal::NO_RECORD;
 use system::refusal::NOTHING_THERE;
@@ -23,9 +24,11 @@ use view::GroupIndex;
 use view::ProcessId;
 use view::and;
 use view::count;
+use view::everyone;
 use view::first_of;
 use view::has;
 use view::least;
+use view::minus;
 use view::subset;
 use view::with;
 use view::within;
@@ -104,13 +107,15 @@ pub struct Change {
 }
 
 // What a step does once it is permitted: it is refused with this number; or, at 0, the acting
-// process changes so, sends the message to every process of the view, and then stops or not.
+// process changes so, sends the message to every process of the view, and then stops or not; it comes
+// to suspect some processes, or goes on to.
 pub struct Plan {
     pub refusal: u8,
     pub change: Change,
     pub stops: bool,
     pub addressees: u8,
     pub message: Message,
+    pub suspects: u8,
 }
 
 // The variables change.
@@ -156,6 +161,7 @@ fn sending(change: Change, to: u8, m: Message) -> Plan
         stops: false,
         addressees: to,
         message: m,
+        suspects: 0,
     }
 }
 
@@ -175,7 +181,17 @@ fn refusing(k: u8, x: Variables) -> Plan
         stops: false,
         addressees: 0,
         message: Message::Propose(0, GroupIndex(0)),
+        suspects: 0,
     }
+}
+
+// The same plan, by which the process suspects those of a set.
+fn doubting(suspects: u8, a: Plan) -> Plan
+    ensures { λ r. ⌜ r ≡ doubting suspects a ⌝ }
+{
+    let mut b = a;
+    b.suspects = suspects;
+    b
 }
 
 fn with_view(x: Variables, view: u8) -> Variables
@@ -224,24 +240,37 @@ fn reproposing(x: Variables, i: GroupIndex) -> Variables
     y
 }
 
-// First guarded command: process p of n is told a view.
-pub fn report_plan(n: u8, p: ProcessId, view: u8, x: Variables) -> Plan
-    ensures { λ r. ⌜ r ≡ reportPlan n (p .0) view x ⌝ }
+// Process p of n is told a view that names it and brings back only whom it may trust again.
+fn new_view_plan(n: u8, p: ProcessId, view: u8, x: Variables) -> Plan
+    ensures { λ r. ⌜ r ≡ newViewPlan n (p .0) view x ⌝ }
+{
+    let suspects = minus(everyone(n), view);
+    if least(view).0 == p.0 {
+        if x.propout.0 < 32 {
+            let i = GroupIndex(x.propout.0 + 1);
+            let full = sending(
+                assigning(proposing(x, view, i)),
+                view,
+                Message::Propose(view, i),
+            );
+            doubting(suspects, full)
+        } else {
+            refusing(HISTORY_FULL, x)
+        }
+    } else {
+        doubting(suspects, quietly(assigning(with_view(x, view))))
+    }
+}
+
+// First guarded command: process p of n, which may trust some others again, is told a view.
+pub fn report_plan(n: u8, p: ProcessId, view: u8, x: Variables, trust: u8) -> Plan
+    ensures { λ r. ⌜ r ≡ reportPlan n (p .0) view x trust ⌝ }
 {
     if and(within(n, view), has(view, p)) {
-        if least(view).0 == p.0 {
-            if x.propout.0 < 32 {
-                let i = GroupIndex(x.propout.0 + 1);
-                sending(
-                    assigning(proposing(x, view, i)),
-                    view,
-                    Message::Propose(view, i),
-                )
-            } else {
-                refusing(HISTORY_FULL, x)
-            }
+        if subset(minus(view, x.view), trust) {
+            new_view_plan(n, p, view, x)
         } else {
-            quietly(assigning(with_view(x, view)))
+            refusing(EARLY_TRUST, x)
         }
     } else {
         refusing(ODD_VIEW, x)
@@ -352,6 +381,7 @@ pub fn crash_plan(x: Variables) -> Plan
         stops: true,
         addressees: 0,
         message: Message::Propose(0, GroupIndex(0)),
+        suspects: 0,
     }
 }
 
@@ -370,6 +400,7 @@ fn cut_short(k: u8, a: Plan) -> Plan
                 stops: true,
                 addressees: first_of(k, to),
                 message: m,
+                suspects: a.suspects,
             }
         } else {
             let x = change.variables;

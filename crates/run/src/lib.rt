@@ -124,10 +124,10 @@ fn all_bad(sheet: &[u8], from: usize, column: usize, out: &mut [u8]) -> usize
 }
 
 // The bytes for an image.
-fn image_buffer() -> [u8; 2097]
+fn image_buffer() -> [u8; 2105]
     ensures { λ r. ⌜ length r ≡ imageWidth ⌝ }
 {
-    [0; 2097]
+    [0; 2105]
 }
 
 // The lines from a place on, of a sheet that starts a fresh system of n processes, 1 to 8.

@@ -177,10 +177,10 @@ fn at_rest(image: &[u8], n: u8) -> bool
 }
 
 // The bytes for an image.
-fn image_buffer() -> [u8; 2097]
+fn image_buffer() -> [u8; 2105]
     ensures { λ r. ⌜ length r ≡ imageWidth ⌝ }
 {
-    [0; 2097]
+    [0; 2105]
 }
 
 // Would no take and no answer be done? Asked of a copy, in a round that ends with its first step.

@@ -101,6 +101,7 @@ fn refusals() {
     judge(b"refused_7");
     judge(b"refused_10");
     judge(b"refused_11");
+    judge(b"refused_13");
     judge(b"order");
     judge(b"refused_9");
     judge(b"sheet_60000");

@@ -26,7 +26,7 @@ abbrev pub two : System
 two = freshSystem 2
 
 abbrev pub sized : ℕ → System
-sized n = record { n = n; processes = two .processes; channels = two .channels }
+sized n = record { n = n; processes = two .processes; channels = two .channels; trust = two .trust }
 
 -- process p of the two, altered
 abbrev pub altered : ℕ → (Process → Process) → System

@@ -14,7 +14,7 @@ use Rattle.channel.proofs.Laws.{empty-long, empty-waiting}
 use Rattle.system.specs.declared.Pending.the-variants.{Nothing}
 use Rattle.system.specs.declared.Process.{Process}
 use Rattle.system.specs.Process.{entryAt, withEntry, noEntries, pendingAt, pendingSlot}
-use Rattle.system.specs.System.{noProcess, processAt, channelNumber, channelAt}
+use Rattle.system.specs.System.{noProcess, processAt, variablesAt, channelNumber, channelAt}
 use Rattle.system.specs.Fresh.{freshVariables, freshProcess, freshSystem}
 use Rattle.sound.specs.Sound.{every, soundProposal, soundMessage, soundPending, soundChannel, soundHistory, soundVariables, soundProcess, soundChannelAt, soundAt, soundSystem}
 use Rattle.step.specs.Step.{Event, ran}
@@ -30,6 +30,14 @@ one-or-none P n zero a d h e = e
 one-or-none P zero (suc k) a d h e = e
 one-or-none P (suc n) (suc zero) a d h e = h
 one-or-none P (suc n) (suc (suc k)) a d h e = one-or-none P n (suc k) a d h e
+
+-- the element numbered k of a list of equal ones
+at-equal : {A : Type 0} (n k : ℕ) (a d : A) → 1 ≤ k → k ≤ n → at (replicate n a) k d ≡ a
+unfolding at
+at-equal zero k a d low high = absurd (omega arith)
+at-equal (suc n) zero a d low high = absurd (omega arith)
+at-equal (suc n) (suc zero) a d low high = refl
+at-equal (suc n) (suc (suc k)) a d low high = at-equal n (suc k) a d (omega arith) (omega arith)
 
 -- ---- histories
 pub empty-past-first : (n i : ℕ) → 2 ≤ i → entryAt (withEntry noEntries 1 (everyone n)) i ≡ 0
@@ -49,6 +57,10 @@ module _ (n : ℕ) where
   pub each-fresh : (P : Process → Type 0) → P (freshProcess n) → P noProcess → (p : ℕ) → P (processAt (freshSystem n) p)
   unfolding processAt freshSystem
   each-fresh P h e p = one-or-none P 8 p (freshProcess n) noProcess h e
+
+  pub fresh-variables : (p : ℕ) → 1 ≤ p → p ≤ 8 → variablesAt (freshSystem n) p ≡ freshVariables n
+  unfolding processAt freshSystem freshProcess
+  fresh-variables p low high = ap (λ (x : Process). x .variables) (at-equal 8 p (freshProcess n) noProcess low high)
 
   pub nothing-recorded : (p q : ℕ) → pendingAt (processAt (freshSystem n) p) q ≡ Nothing
   unfolding pendingAt freshProcess noProcess
@@ -73,6 +85,7 @@ module _ (n : ℕ) where
         slots = λ q p. rw (fresh-channel q p) empty-long;
         pending = each-fresh (λ x. length (x .pending) ≡ 8) refl refl;
         entries = each-fresh (λ x. length (x .history .entries) ≡ 32) refl refl;
+        trust = refl;
       }
 
 -- the fresh systems of 1 to 8, computed

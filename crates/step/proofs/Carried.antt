@@ -5,11 +5,11 @@ use mathlib.Core.Bool.{Bool, true, false, _&&_}
 use mathlib.Core.List.{List, [], _∷_, _++_}
 use native.Mathlib.Omega.{arith}
 use borrow.Author.Tests.{ltb-true, eqb-true, eqb-false}
-use lib.ListN.{drop}
+use lib.ListN.{length, drop}
 use lib.Dec.{ltb, eqb}
-use Rattle.view.specs.Logic.{pick, isOneOf}
+use Rattle.view.specs.Logic.{pick, eachUpTo, isOneOf}
 use Rattle.view.specs.View.{has, countOf}
-use Rattle.view.proofs.Laws.{one-of, by-pick, by-test, by-number, true-is-not-false, all-elim, length-put, and-left, and-right}
+use Rattle.view.proofs.Laws.{one-of, by-pick, by-test, by-number, true-is-not-false, all-elim, each-keeps, length-put, and-left, and-right}
 use Rattle.view.proofs.Sets.{has-number, count-none, first-has}
 use Rattle.channel.specs.declared.Message.{Message}
 use Rattle.channel.specs.declared.Channel.{Channel}
@@ -19,7 +19,7 @@ use Rattle.system.specs.declared.Process.{Process}
 use Rattle.system.specs.declared.System.{System}
 use Rattle.system.specs.declared.Outcome.{Outcome}
 use Rattle.system.specs.Process.{asCrashed, withVariables, withEntry}
-use Rattle.system.specs.System.{processAt, variablesAt, withProcess, channelAt, withChannel, broadcasted, takesIfNamed, roomFor}
+use Rattle.system.specs.System.{processAt, variablesAt, withProcess, channelAt, withChannel, withTrust, trusting, broadcasted, takesIfNamed, roomFor}
 use Rattle.plan.specs.declared.Change.{Change}
 use Rattle.plan.specs.declared.Cut.{Cut}
 use Rattle.plan.specs.declared.Cut.the-variants.{Whole, After}
@@ -27,10 +27,11 @@ use Rattle.plan.specs.declared.Plan.{Plan}
 use Rattle.plan.specs.declared.Scope.{Scope}
 use Rattle.plan.specs.Plan.{changed}
 use Rattle.plan.specs.Cut.{cutShort, cutBy}
-use Rattle.step.specs.Step.{crashedAt, crashedIf, effected, takenOff, carriedOut, permitted}
+use Rattle.step.specs.Step.{departed, suspectedIfNamed, doubted, changedAt, crashedAt, crashedIf, effected, takenOff, carriedOut, permitted}
 use Rattle.step.proofs.Frames.{Shape, Numbered, channels-stay, process-same, process-other, channel-same, channel-apart, shape-process, each-channel}
 use Rattle.step.proofs.Cases.{waitingAt, afterwards, Fate, stays, grows, empties, Effect, Known, Acts, Taken}
 use Rattle.step.proofs.Soundness.{Sound, Valid, sound-facts}
+use Rattle.step.proofs.Trust.{effect-trust}
 use Rattle.step.proofs.Broadcasts.{Channels, channels-same, channels-with, Told, told-all, Emptied, emptied-up-to, emptied-all}
 
 -- ---- the effect of a plan that does not stop, carried out in u: s, without the message that the step takes
@@ -191,18 +192,48 @@ module _ {s w : System} {left : ℕ → ℕ → List Message} {p : ℕ} {c : Cha
             (λ n. subst (λ (d : Channel). d .len ≤ 8) (sym (elsewhere a b n)) (f .short a b h));
       }
 
+-- p comes to suspect others first: no process and no channel changes by that
+doubted-shape : (u : System) → Shape u → (p d : ℕ) → Shape (doubted u p d)
+unfolding doubted withTrust processAt channelAt suspectedIfNamed departed trusting
+doubted-shape u shape p d =
+    record {
+      processes = shape .processes;
+      channels = shape .channels;
+      slots = shape .slots;
+      pending = shape .pending;
+      entries = shape .entries;
+      trust =
+          each-keeps (λ (l : List ℕ). length l ≡ 8) 8 (suspectedIfNamed u p d)
+          (λ k low high l long.
+          by-pick (λ (m : List ℕ). length m ≡ 8) (has d k) _ _
+          (λ named.
+          length-put (departed u p k l) k _
+          ∙ by-pick (λ (m : List ℕ). length m ≡ 8) (has (variablesAt u p .view) k) _ _ (λ there. length-put l p _ ∙ long) (λ gone. long))
+          (λ other. long))
+          (u .trust)
+          (shape .trust);
+    }
+
+doubted-ready : (s u : System) → Ready s u → (p d : ℕ) → Ready s (doubted u p d)
+unfolding doubted withTrust processAt channelAt
+doubted-ready s u ready p d =
+    record {
+      frame = record { shape = doubted-shape u (ready .frame .shape) p d; size = ready .frame .size; processes = ready .frame .processes };
+      short = ready .short;
+    }
+
 -- the effect of any plan. No change touches whether a process has stopped: that is for the stop
 pub plan-effect : (s u : System) → Ready s u → (p : ℕ) → Numbered p → variablesAt s p .crashed ≡ false → (a : Plan) → a .change .variables .crashed ≡ false
     → roomFor u p (a .addressees) ≡ true
     → Effect s (effected u p a) (waitingAt u) p (a .change) (a .stops) (a .addressees) (a .message)
-unfolding effected crashedIf pick
+unfolding effected changedAt crashedIf pick doubted withTrust channelAt roomFor takesIfNamed processAt
 plan-effect s u ready p number live a calm room = by-stop (a .stops)
   where
     w : System
-    w = broadcasted (withProcess u p (changed (processAt u p) (a .change))) p (a .addressees) (a .message)
+    w = broadcasted (changedAt (doubted u p (a .suspects)) p (a .change)) p (a .addressees) (a .message)
 
     f : Effect s w (waitingAt u) p (a .change) false (a .addressees) (a .message)
-    f = sent-effect s u ready p number live (a .change) calm (a .addressees) (a .message) room
+    f = sent-effect s (doubted u p (a .suspects)) (doubted-ready s u ready p (a .suspects)) p number live (a .change) calm (a .addressees) (a .message) room
 
     by-stop : (stops : Bool) → Effect s (pick stops (crashedAt w p) w) (waitingAt u) p (a .change) stops (a .addressees) (a .message)
     by-stop true = stopped-effect f number
@@ -265,6 +296,7 @@ pub record Carried (s t : System) (left : ℕ → ℕ → List Message) (p q : �
   pub acts : Acts s p
   pub partner : Known s q
   pub plain : a .refusal ≡ 0
+  pub trust : t .trust ≡ eachUpTo 8 (suspectedIfNamed s p (a .suspects)) (s .trust)
   pub effect : a .change .variables .crashed ≡ variablesAt s p .crashed → Effect s t left p (a .change) (a .stops) (a .addressees) (a .message)
 
 -- as the definition of a step says it
@@ -308,6 +340,7 @@ module _ (s : System) (valid : Valid s) where
         acts = record { known = k; live = live };
         partner = j;
         plain = eqb-true (a .refusal) 0 plain;
+        trust = effect-trust s c (c .actor .0) a;
         effect = λ calm. plan-effect s (takenOff s c) (ready c k j) (c .actor .0) (number _ k) live a (calm ∙ live) room;
       })
       (λ full z. absurd (omega arith)))
@@ -319,6 +352,7 @@ pub record Performed (s t : System) (left : ℕ → ℕ → List Message) (p q :
   pub acts : Acts s p
   pub partner : Known s q
   pub plain : a .refusal ≡ 0
+  pub trust : t .trust ≡ eachUpTo 8 (suspectedIfNamed s p (a .suspects)) (s .trust)
   -- its process stops where it does as it plans, and where it is cut
   pub stops : Bool
   pub effect : a .change .variables .crashed ≡ variablesAt s p .crashed → Effect s t left p (a .change) stops (a .addressees) (a .message)
@@ -329,7 +363,7 @@ pub record Performed (s t : System) (left : ℕ → ℕ → List Message) (p q :
 pub performed : {s t : System} {left : ℕ → ℕ → List Message} {p q : ℕ} (cut : Cut) (a : Plan) → Carried s t left p q (cutBy cut a) → Performed s t left p q a
 unfolding cutBy cutShort
 performed Whole a =
-    λ k. record { acts = k .acts; partner = k .partner; plain = k .plain; stops = a .stops; effect = k .effect; quiet = λ none. k .effect }
+    λ k. record { acts = k .acts; partner = k .partner; plain = k .plain; trust = k .trust; stops = a .stops; effect = k .effect; quiet = λ none. k .effect }
 performed {s} {t} {left} {p} {q} (After n) a =
     by-pick Of (eqb (a .refusal) 0) _ _
     (λ plain.
@@ -339,6 +373,7 @@ performed {s} {t} {left} {p} {q} (After n) a =
       acts = k .acts;
       partner = k .partner;
       plain = eqb-true (a .refusal) 0 plain;
+      trust = k .trust;
       stops = true;
       effect = λ calm. never-sent (first-has n (a .addressees)) (k .effect calm);
       quiet = λ none. absurd (omega (arith, ltb-true n (countOf (a .addressees)) early, ap countOf none ∙ count-none));

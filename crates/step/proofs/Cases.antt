@@ -2,7 +2,7 @@
 -- process stops, and some of the addressees are told nothing.
 use Prim.Native.Nat.{ℕ, _≤_, _<_, _+_}
 use mathlib.Core.Path.{_≡_, refl}
-use mathlib.Core.Bool.{Bool, true, false, _||_}
+use mathlib.Core.Bool.{Bool, true, false, _||_, not}
 use mathlib.Core.List.{List, [], _∷_, _++_}
 use Rattle.view.specs.declared.ProcessId.{ProcessId}
 use Rattle.view.specs.declared.GroupIndex.{GroupIndex}
@@ -16,7 +16,7 @@ use Rattle.system.specs.declared.Variables.{Variables}
 use Rattle.system.specs.declared.Process.{Process}
 use Rattle.system.specs.declared.System.{System}
 use Rattle.system.specs.Process.{index, withEntry, pendingAt, pendingSlot}
-use Rattle.system.specs.System.{processAt, variablesAt, channelAt}
+use Rattle.system.specs.System.{processAt, variablesAt, channelAt, mayTrust}
 use Rattle.plan.specs.declared.Change.{Change}
 use Rattle.plan.specs.declared.Action.{Action}
 use Rattle.plan.specs.declared.Action.the-variants.{Report, Receive, Respond, Crash}
@@ -90,12 +90,31 @@ pub record Effect (s t : System) (left : ℕ → ℕ → List Message) (p : ℕ)
   -- what the lists do not tell
   pub short : (a b : ℕ) → channelAt s a b .len ≤ 8 → channelAt t a b .len ≤ 8
 
+-- ---- trust
+-- every mark is as it was
+abbrev pub SameTrust : System → System → Type 0
+SameTrust s t = (a b : ℕ) → mayTrust t a b ≡ mayTrust s a b
+
+-- process p, whose view was the one in s, is told view v: what becomes of each mark (a, b)
+pub record Doubts (s t : System) (p v : ℕ) : Type 0 where
+  -- b leaves p's view: a suspicion begins, and the mark says whether b's view lacks p at that moment
+  pub begins : (b : ℕ) → has (variablesAt s p .view) b ≡ true → has v b ≡ false → mayTrust t p b ≡ not (has (variablesAt s b .view) p)
+  -- p's new view lacks a
+  pub turns : (a : ℕ) → 1 ≤ a → a ≤ s .n → has v a ≡ false → mayTrust t a p ≡ true
+  -- every other
+  pub rest : (a b : ℕ) → (a ≡ p → has (variablesAt s p .view) b ≡ true → has v b ≡ false → ⊥)
+      → (b ≡ p → 1 ≤ a → a ≤ s .n → has v a ≡ false → ⊥)
+      → mayTrust t a b ≡ mayTrust s a b
+
 -- ---- Figure 3, transition by transition
 -- local?(v_p), and p = min(v_p)
 pub record Proposes (s t : System) (p : ProcessId) (v : ℕ) : Type 0 where
   pub acts : Acts s (p .0)
   pub inside : within (s .n) v ≡ true
   pub own : has v (p .0) ≡ true
+  -- p may trust again whom the view brings back
+  pub trusted : (b : ℕ) → has v b ≡ true → has (variablesAt s (p .0) .view) b ≡ false → mayTrust s (p .0) b ≡ true
+  pub doubts : Doubts s t (p .0) v
   pub least : leastOf v .0 ≡ p .0
   pub below : variablesAt s (p .0) .propout .0 < 32
   pub stops : Bool
@@ -107,6 +126,9 @@ pub record Follows (s t : System) (p : ProcessId) (v : ℕ) : Type 0 where
   pub acts : Acts s (p .0)
   pub inside : within (s .n) v ≡ true
   pub own : has v (p .0) ≡ true
+  -- p may trust again whom the view brings back
+  pub trusted : (b : ℕ) → has v b ≡ true → has (variablesAt s (p .0) .view) b ≡ false → mayTrust s (p .0) b ≡ true
+  pub doubts : Doubts s t (p .0) v
   pub other : leastOf v .0 ≡ p .0 → ⊥
   pub effect : Effect s t (waitingAt s) (p .0) (assigning (withView (variablesAt s (p .0)) v)) false 0 noMessage
 
@@ -119,6 +141,7 @@ pub record Records (s t : System) (q p : ProcessId) : Type 0 where
   pub left : ℕ → ℕ → List Message
   pub taken : Taken s (q .0) (p .0) (Propose view index) left
   pub sound : SoundProposal (s .n) (q .0) (p .0) view (index .0)
+  pub trust : SameTrust s t
   pub effect : Effect s t left (p .0) (recording (variablesAt s (p .0)) q (Proposal view index)) false 0 noMessage
 
 -- R_q?Retry, and PropOut = old ∧ p = min(v_p)
@@ -136,6 +159,7 @@ pub record Reproposes (s t : System) (q p : ProcessId) : Type 0 where
   pub below : new .0 ≤ 32
   pub proposed : has (variablesAt s (p .0) .proposal) (p .0) ≡ true
   pub stops : Bool
+  pub trust : SameTrust s t
   pub effect : Effect s t left (p .0) (assigning (reproposing (variablesAt s (p .0)) (new .0))) stops
       (variablesAt s (p .0) .view) (Propose (variablesAt s (p .0) .view) new)
 
@@ -148,6 +172,7 @@ pub record Ignores (s t : System) (q p : ProcessId) : Type 0 where
   pub left : ℕ → ℕ → List Message
   pub taken : Taken s (q .0) (p .0) (Retry old new) left
   pub idle : variablesAt s (p .0) .propout .0 ≡ old .0 → leastOf (variablesAt s (p .0) .view) .0 ≡ p .0 → ⊥
+  pub trust : SameTrust s t
   pub effect : Effect s t left (p .0) (assigning (variablesAt s (p .0))) false 0 noMessage
 
 -- R_q?Acc: ack once q is marked, or is not
@@ -166,6 +191,7 @@ pub record Marks (s t : System) (q p : ProcessId) : Type 0 where
   pub acks : ℕ
   pub marking : Marking (variablesAt s (p .0)) (q .0) (index .0) acks
   pub partial : (variablesAt s (p .0) .proposal ≡ 0 → ⊥) → subset (variablesAt s (p .0) .proposal) acks ≡ false
+  pub trust : SameTrust s t
   pub effect : Effect s t left (p .0) (assigning (withAcks (variablesAt s (p .0)) acks)) false 0 noMessage
 
 -- R_q?Acc, and ∀ q in v*: ack[q] = 1
@@ -181,6 +207,7 @@ pub record Commits (s t : System) (q p : ProcessId) : Type 0 where
   pub proposed : has (variablesAt s (p .0) .proposal) (p .0) ≡ true
   pub complete : subset (variablesAt s (p .0) .proposal) acks ≡ true
   pub stops : Bool
+  pub trust : SameTrust s t
   pub effect : Effect s t left (p .0) (assigning (withAcks (variablesAt s (p .0)) 0)) stops
       (variablesAt s (p .0) .proposal) (Commit (variablesAt s (p .0) .proposal) (variablesAt s (p .0) .propout))
 
@@ -193,6 +220,7 @@ pub record Enters (s t : System) (q p : ProcessId) : Type 0 where
   pub left : ℕ → ℕ → List Message
   pub taken : Taken s (q .0) (p .0) (Commit view index) left
   pub sound : SoundProposal (s .n) (q .0) (p .0) view (index .0)
+  pub trust : SameTrust s t
   pub effect : Effect s t left (p .0) (entering (variablesAt s (p .0)) (index .0) view) false 0 noMessage
 
 -- Prop[q] ∧ (v[q] = v_p), and PropIn[q] ≥ Next
@@ -206,6 +234,7 @@ pub record Accepts (s t : System) (p q : ProcessId) : Type 0 where
   pub same : view ≡ variablesAt s (p .0) .view
   pub free : variablesAt s (p .0) .next .0 ≤ index .0
   pub stops : Bool
+  pub trust : SameTrust s t
   pub effect : Effect s t (waitingAt s) (p .0) (recording (withNext (variablesAt s (p .0)) (index .0 + 1)) q Nothing) stops (with 0 (q .0)) (Acc index)
 
 -- Prop[q] ∧ (v[q] = v_p), and PropIn[q] < Next
@@ -219,11 +248,13 @@ pub record Declines (s t : System) (p q : ProcessId) : Type 0 where
   pub same : view ≡ variablesAt s (p .0) .view
   pub late : index .0 < variablesAt s (p .0) .next .0
   pub stops : Bool
+  pub trust : SameTrust s t
   pub effect : Effect s t (waitingAt s) (p .0) (recording (variablesAt s (p .0)) q Nothing) stops (with 0 (q .0)) (Retry index (variablesAt s (p .0) .next))
 
 -- the process stops
 pub record Crashes (s t : System) (p : ProcessId) : Type 0 where
   pub acts : Acts s (p .0)
+  pub trust : SameTrust s t
   pub effect : Effect s t (waitingAt s) (p .0) (assigning (variablesAt s (p .0))) true 0 noMessage
 
 pub data Transition (s t : System) : Action → Type 0 where

@@ -20,6 +20,7 @@ pub record Shape (s : System) : Type 0 where
   pub slots : (q p : ℕ) → length (channelAt s q p .slots) ≡ 8
   pub pending : (p : ℕ) → length (processAt s p .pending) ≡ 8
   pub entries : (p : ℕ) → length (processAt s p .history .entries) ≡ 32
+  pub trust : length (s .trust) ≡ 8
 
 -- ---- a process is replaced: the channels stay
 pub channels-stay : (s : System) (p : ℕ) (x : Process) (a b : ℕ) → channelAt (withProcess s p x) a b ≡ channelAt s a b
@@ -99,12 +100,17 @@ module _ (s : System) (shape : Shape s) (q p : ℕ) (from : Numbered q) (to : Nu
         slots = each-channel (λ a b d. length (d .slots) ≡ 8) long (shape .slots);
         pending = shape .pending;
         entries = shape .entries;
+        trust = shape .trust;
       }
 
 module _ (s : System) (shape : Shape s) (p : ℕ) (number : Numbered p) (x : Process) where
   length-processes : length (withProcess s p x .processes) ≡ 8
   unfolding withProcess
   length-processes = length-put (s .processes) p x ∙ shape .processes
+
+  same-trust : length (withProcess s p x .trust) ≡ 8
+  unfolding withProcess
+  same-trust = shape .trust
 
   same-channels : length (withProcess s p x .channels) ≡ 64
   unfolding withProcess
@@ -118,4 +124,5 @@ module _ (s : System) (shape : Shape s) (p : ℕ) (number : Numbered p) (x : Pro
         slots = λ a b. rw (channels-stay s p x a b) (shape .slots a b);
         pending = each-of s shape p number x (λ y. length (y .pending) ≡ 8) pending (shape .pending);
         entries = each-of s shape p number x (λ y. length (y .history .entries) ≡ 32) entries (shape .entries);
+        trust = same-trust;
       }

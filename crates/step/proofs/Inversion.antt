@@ -9,8 +9,8 @@ use borrow.Author.Tests.{ltb-true, eqb-true, eqb-false, eq-eqb, ne-eqb, ltb-fals
 use lib.Dec.{leb, ltb, eqb}
 use Rattle.view.specs.declared.ProcessId.{ProcessId}
 use Rattle.view.specs.declared.GroupIndex.{GroupIndex}
-use Rattle.view.specs.Logic.{pick, isOneOf}
-use Rattle.view.specs.View.{has, within, subset, with, leastOf}
+use Rattle.view.specs.Logic.{pick, eachUpTo, isOneOf}
+use Rattle.view.specs.View.{has, within, subset, with, minus, everyone, leastOf}
 use Rattle.view.proofs.Laws.{by-pick, by-number, true-is-not-false, and-left, and-right, and-intro, Each}
 use Rattle.channel.specs.declared.Message.{Message}
 use Rattle.channel.specs.declared.Message.the-variants.{Propose, Retry, Acc, Commit}
@@ -21,19 +21,20 @@ use Rattle.system.specs.declared.Pending.the-variants.{Nothing, Proposal}
 use Rattle.system.specs.declared.Variables.{Variables}
 use Rattle.system.specs.declared.Outcome.{Outcome}
 use Rattle.system.specs.Process.{pendingAt}
-use Rattle.system.specs.System.{processAt, variablesAt, channelAt, withChannel, roomFor, done, refused}
+use Rattle.system.specs.System.{processAt, variablesAt, channelAt, withChannel, trustAt, roomFor, done, refused}
 use Rattle.sound.specs.Sound.{soundMessage, soundPending, soundSystem}
 use Rattle.plan.specs.declared.Plan.{Plan}
 use Rattle.plan.specs.declared.Action.{Action}
 use Rattle.plan.specs.declared.Action.the-variants.{Report, Receive, Respond, Crash}
 use Rattle.plan.specs.declared.Step.{Step}
-use Rattle.plan.specs.Plan.{reportPlan, committingPlan, messagePlan, receivePlan, respondPlan}
+use Rattle.plan.specs.Plan.{newViewPlan, reportPlan, committingPlan, messagePlan, receivePlan, respondPlan}
 use Rattle.plan.specs.Fields.{withAcks}
 use Rattle.plan.specs.Scope.{scopeOf}
 use Rattle.plan.specs.Cut.{cutBy}
-use Rattle.step.specs.Step.{planOf, takenOff, carriedOut, permitted, attempted, stepped}
-use Rattle.step.proofs.Cases.{waitingAt, Known, Taken, Marking, present, stale, Transition, proposes, follows, records, reproposes, ignores, marks, commits, enters, accepts, declines, crashes}
+use Rattle.step.specs.Step.{planOf, takenOff, suspectedIfNamed, carriedOut, permitted, attempted, stepped}
+use Rattle.step.proofs.Cases.{waitingAt, Known, Taken, Doubts, Marking, present, stale, Transition, proposes, follows, records, reproposes, ignores, marks, commits, enters, accepts, declines, crashes}
 use Rattle.step.proofs.Soundness.{SoundProposal, SoundProcess, Valid, proposal-facts, retry-facts, acc-facts}
+use Rattle.step.proofs.Trust.{doubts, brought-back, same-trust}
 use Rattle.step.proofs.Carried.{sound, number, taken-first, carried, Performed, performed}
 
 -- ---- each plan
@@ -48,13 +49,20 @@ module _ (s : System) (valid : Valid s) (t : System) where
   own : (p : ℕ) → Known s p → SoundProcess (s .n) p (processAt s p)
   own p k = sound s valid .process p (k .low) (k .high)
 
-  report-cases : (p : ProcessId) (v : ℕ) → Case (waitingAt s) (p .0) (p .0) (Report p v) (reportPlan (s .n) (p .0) v (variablesAt s (p .0)))
-  unfolding reportPlan
+  report-doubts : (p v : ℕ) → Known s p → has v p ≡ true → t .trust ≡ eachUpTo 8 (suspectedIfNamed s p (minus (everyone (s .n)) v)) (s .trust) → Doubts s t p v
+  report-doubts p v known own-named e = doubts s t (valid .shape) p v known (sound s valid .high) (own p known .variables .view-inside) own-named e
+
+  report-cases : (p : ProcessId) (v : ℕ) → Case (waitingAt s) (p .0) (p .0) (Report p v)
+      (reportPlan (s .n) (p .0) v (variablesAt s (p .0)) (trustAt s (p .0)))
+  unfolding reportPlan newViewPlan
   report-cases p v =
       let x = variablesAt s (p .0) in
       let C = Case (waitingAt s) (p .0) (p .0) (Report p v) in
       by-pick C (within (s .n) v && has v (p .0)) _ _
       (λ named.
+      let own-named = and-right (within (s .n) v) (has v (p .0)) named in
+      by-pick C (subset (minus v (x .view)) (trustAt s (p .0))) _ _
+      (λ may.
       by-pick C (eqb (leastOf v .0) (p .0)) _ _
       (λ least.
       by-pick C (ltb (x .propout .0) 32) _ _
@@ -63,7 +71,9 @@ module _ (s : System) (valid : Valid s) (t : System) where
       (record {
         acts = k .acts;
         inside = and-left (within (s .n) v) (has v (p .0)) named;
-        own = and-right (within (s .n) v) (has v (p .0)) named;
+        own = own-named;
+        trusted = brought-back s (p .0) v may;
+        doubts = report-doubts (p .0) v (k .acts .known) own-named (k .trust);
         least = eqb-true (leastOf v .0) (p .0) least;
         below = ltb-true (x .propout .0) 32 below;
         stops = k .stops;
@@ -75,10 +85,13 @@ module _ (s : System) (valid : Valid s) (t : System) where
       (record {
         acts = k .acts;
         inside = and-left (within (s .n) v) (has v (p .0)) named;
-        own = and-right (within (s .n) v) (has v (p .0)) named;
+        own = own-named;
+        trusted = brought-back s (p .0) v may;
+        doubts = report-doubts (p .0) v (k .acts .known) own-named (k .trust);
         other = eqb-false (leastOf v .0) (p .0) other;
         effect = k .quiet refl refl;
       })))
+      (λ early k. never k (omega arith)))
       (λ odd k. never k (omega arith))
 
   -- what process p has recorded from process q is sound
@@ -111,6 +124,7 @@ module _ (s : System) (valid : Valid s) (t : System) where
         same = eqb-true v (x .view) same;
         late = ltb-true (i .0) (x .next .0) late;
         stops = k .stops;
+        trust = same-trust s t (p .0) (k .trust);
         effect = k .effect refl;
       }))
       (λ free.
@@ -127,6 +141,7 @@ module _ (s : System) (valid : Valid s) (t : System) where
         same = eqb-true v (x .view) same;
         free = ltb-false (i .0) (x .next .0) free;
         stops = k .stops;
+        trust = same-trust s t (p .0) (k .trust);
         effect = k .effect refl;
       }))
       (λ beyond k. never k (omega arith))))
@@ -159,6 +174,7 @@ module _ (s : System) (valid : Valid s) (t : System) where
           proposed = was-proposed (p .0) (k .acts .known) (eqb-false (x .proposal) 0 (not-true _ (and-left some (subset (x .proposal) acks) both)));
           complete = and-right some (subset (x .proposal) acks) both;
           stops = k .stops;
+          trust = same-trust s t (p .0) (k .trust);
           effect = k .effect refl;
         }))
         (λ part k.
@@ -173,6 +189,7 @@ module _ (s : System) (valid : Valid s) (t : System) where
           acks = acks;
           marking = marking;
           partial = λ h. rw (ne-eqb (x .proposal) 0 h) at part;
+          trust = same-trust s t (p .0) (k .trust);
           effect = k .quiet refl refl;
         }))
 
@@ -189,6 +206,7 @@ module _ (s : System) (valid : Valid s) (t : System) where
           left = left;
           taken = taken;
           sound = proposal-facts (s .n) (q .0) (p .0) v (i .0) e;
+          trust = same-trust s t (p .0) (k .trust);
           effect = k .quiet refl refl;
         })
     message-cases (Retry old new) taken e =
@@ -217,6 +235,7 @@ module _ (s : System) (valid : Valid s) (t : System) where
           below = leb-true (new .0) 32 below;
           proposed = own (p .0) (k .acts .known) .variables .own-proposed (λ one. omega (arith, f, at-old));
           stops = k .stops;
+          trust = same-trust s t (p .0) (k .trust);
           effect = k .effect refl;
         }))
         (λ last k. never k (omega arith)))
@@ -230,6 +249,7 @@ module _ (s : System) (valid : Valid s) (t : System) where
           left = left;
           taken = taken;
           idle = λ a b. true-is-not-false (sym (and-intro (eq-eqb (x .propout .0) (old .0) a) (eq-eqb (leastOf (x .view) .0) (p .0) b)) ∙ other);
+          trust = same-trust s t (p .0) (k .trust);
           effect = k .quiet refl refl;
         }))
     message-cases (Acc i) taken e =
@@ -248,6 +268,7 @@ module _ (s : System) (valid : Valid s) (t : System) where
           left = left;
           taken = taken;
           sound = proposal-facts (s .n) (q .0) (p .0) v (i .0) e;
+          trust = same-trust s t (p .0) (k .trust);
           effect = k .quiet refl refl;
         })
 
@@ -270,7 +291,7 @@ module _ (s : System) (valid : Valid s) (t : System) where
   cases (Report p v) k = report-cases p v k
   cases (Receive q p) k = receive-cases q p (waitingAt s (q .0) (p .0)) refl k
   cases (Respond p q) k = respond-cases p q (pendingAt (processAt s (p .0)) (q .0)) refl k
-  cases (Crash p) k = crashes (record { acts = k .acts; effect = k .quiet refl refl })
+  cases (Crash p) k = crashes (record { acts = k .acts; trust = same-trust s t (p .0) (k .trust); effect = k .quiet refl refl })
 
 -- ---- the step
 -- on a sound system the step is what is attempted

@@ -4,6 +4,7 @@ pub mod Soundness
 pub mod Cases
 pub mod Effects
 pub mod Broadcasts
+pub mod Trust
 pub mod Carried
 pub mod Inversion
 pub mod SoundSteps

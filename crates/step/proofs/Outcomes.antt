@@ -10,7 +10,7 @@ use borrow.Author.Tests.{le-leb}
 use lib.Dec.{leb, ltb, eqb}
 use Rattle.view.specs.declared.ProcessId.{ProcessId}
 use Rattle.view.specs.Logic.{pick, isOneOf}
-use Rattle.view.specs.View.{has, within, subset, leastOf, countOf}
+use Rattle.view.specs.View.{has, within, subset, minus, leastOf, countOf}
 use Rattle.view.proofs.Laws.{by-pick, each-keeps, one-of, and-left, and-right, or-right, true-is-not-false}
 use Rattle.channel.specs.declared.Message.{Message}
 use Rattle.channel.specs.declared.Message.the-variants.{Propose, Retry, Acc, Commit}
@@ -22,7 +22,7 @@ use Rattle.system.specs.declared.Process.{Process}
 use Rattle.system.specs.declared.System.{System}
 use Rattle.system.specs.declared.Outcome.{Outcome}
 use Rattle.system.specs.Process.{pendingAt}
-use Rattle.system.specs.System.{processAt, variablesAt, withProcess, channelAt, withChannel, sent, sentIfNamed, broadcasted, roomFor, refused}
+use Rattle.system.specs.System.{processAt, variablesAt, withProcess, channelAt, withChannel, trustAt, withTrust, sent, sentIfNamed, broadcasted, roomFor, refused}
 use Rattle.sound.specs.Sound.{soundPending, soundSystem}
 use Rattle.plan.specs.declared.Plan.{Plan}
 use Rattle.plan.specs.declared.Scope.{Scope}
@@ -31,10 +31,10 @@ use Rattle.plan.specs.declared.Action.the-variants.{Report, Receive, Respond, C
 use Rattle.plan.specs.declared.Cut.{Cut}
 use Rattle.plan.specs.declared.Cut.the-variants.{Whole, After}
 use Rattle.plan.specs.declared.Step.{Step}
-use Rattle.plan.specs.Plan.{changed, reportPlan, committingPlan, messagePlan, receivePlan, respondPlan}
+use Rattle.plan.specs.Plan.{newViewPlan, reportPlan, committingPlan, messagePlan, receivePlan, respondPlan}
 use Rattle.plan.specs.Scope.{scopeOf}
 use Rattle.plan.specs.Cut.{cutShort, cutBy}
-use Rattle.step.specs.Step.{planOf, takenOff, emptiedFrom, crashedAt, crashedIf, effected, permitted, carriedOut, attempted, stepped, Event, does, happened, ran}
+use Rattle.step.specs.Step.{planOf, takenOff, doubted, changedAt, emptiedFrom, crashedAt, crashedIf, effected, permitted, carriedOut, attempted, stepped, Event, does, happened, ran}
 use Rattle.step.proofs.Soundness.{Sound, Valid, sound-facts, proposal-facts}
 use Rattle.step.proofs.Cases.{Transition, outline}
 use Rattle.step.proofs.Inversion.{sound-stepped, done-or-refused, by-outcome}
@@ -49,12 +49,12 @@ abbrev Sized : ℕ → System → Type 0
 Sized n s = s .n ≡ n
 
 effected-size : (n : ℕ) (t : System) (p : ℕ) (a : Plan) → Sized n t → Sized n (effected t p a)
-unfolding effected crashedIf crashedAt emptiedFrom broadcasted sentIfNamed sent withProcess withChannel
+unfolding effected doubted withTrust changedAt crashedIf crashedAt emptiedFrom broadcasted sentIfNamed sent withProcess withChannel
 effected-size n t p a e =
     let told =
     each-keeps (Sized n) 8 (sentIfNamed p (a .addressees) (a .message))
     (λ k l u x h. by-pick (Sized n) (has (a .addressees) k) _ _ (λ b. by-pick (Sized n) (variablesAt x k .crashed) _ _ (λ c. h) (λ c. h)) (λ b. h))
-    (withProcess t p (changed (processAt t p) (a .change))) e in
+    (changedAt (doubted t p (a .suspects)) p (a .change)) e in
     by-pick (Sized n) (a .stops) _ _ (λ b. each-keeps (Sized n) 8 (emptiedFrom p) (λ k l u x h. h) _ told) (λ b. told)
 
 pub size-kept : (s : System) (o : Step) → stepped s o .system .n ≡ s .n
@@ -87,7 +87,7 @@ among (a ∷ rest) k = eqb k a || among rest k
 
 -- what a step answers on a sound system: 0, or a number of the refusal table other than 1; 8 and 9 are a sheet's
 abbrev pub soundAnswers : List ℕ
-soundAnswers = 0 ∷ 2 ∷ 3 ∷ 4 ∷ 5 ∷ 6 ∷ 7 ∷ 10 ∷ 11 ∷ 12 ∷ []
+soundAnswers = 0 ∷ 2 ∷ 3 ∷ 4 ∷ 5 ∷ 6 ∷ 7 ∷ 10 ∷ 11 ∷ 12 ∷ 13 ∷ []
 
 -- and on any system
 abbrev pub answers : List ℕ
@@ -96,13 +96,16 @@ answers = 1 ∷ soundAnswers
 abbrev Told : Plan → Type 0
 Told a = among soundAnswers (a .refusal) ≡ true
 
-report-told : (n p v : ℕ) (x : Variables) → Told (reportPlan n p v x)
-unfolding among reportPlan
-report-told n p v x =
+report-told : (n p v : ℕ) (x : Variables) (trust : ℕ) → Told (reportPlan n p v x trust)
+unfolding among reportPlan newViewPlan
+report-told n p v x trust =
     by-pick Told (within n v && has v p) _ _
     (λ a.
+    by-pick Told (subset (minus v (x .view)) trust) _ _
+    (λ b.
     by-pick Told (eqb (leastOf v .0) p) _ _
-    (λ b. by-pick Told (ltb (x .propout .0) 32) _ _ (λ c. refl) (λ c. refl))
+    (λ c. by-pick Told (ltb (x .propout .0) 32) _ _ (λ d. refl) (λ d. refl))
+    (λ c. refl))
     (λ b. refl))
     (λ a. refl)
 
@@ -164,7 +167,7 @@ permitted-told s c a h =
 
 plan-told : (s : System) → Sound s → (o : Action) → isOneOf (s .n) (scopeOf o .actor .0) ≡ true → isOneOf (s .n) (scopeOf o .partner .0) ≡ true → Told (planOf s o)
 unfolding among planOf scopeOf
-plan-told s sound (Report p v) a b = report-told (s .n) (p .0) v (variablesAt s (p .0))
+plan-told s sound (Report p v) a b = report-told (s .n) (p .0) v (variablesAt s (p .0)) (trustAt s (p .0))
 plan-told s sound (Receive q p) a b = receive-told q (p .0) (variablesAt s (p .0)) (waiting (channelAt s (q .0) (p .0)))
 plan-told s sound (Respond p q) a b =
     let x = one-of (s .n) (p .0) a in

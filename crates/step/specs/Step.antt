@@ -1,15 +1,17 @@
 -- One step of any kind on any system, and a list of events.
 use Prim.Native.Nat.{ℕ}
-use mathlib.Core.Bool.{Bool, _&&_}
+use mathlib.Core.Bool.{Bool, true, _&&_, not}
 use mathlib.Core.List.{List, [], _∷_}
 use lib.Dec.{eqb}
 use Rattle.view.specs.Logic.{pick, unless, eachUpTo, isOneOf}
+use Rattle.view.specs.View.{has}
 use Rattle.channel.specs.Channel.{emptyChannel, front, popped}
 use Rattle.system.specs.declared.System.{System}
 use Rattle.system.specs.declared.Outcome.{Outcome}
 use Rattle.system.specs.Process.{asCrashed, pendingAt, withVariables}
-use Rattle.system.specs.System.{processAt, variablesAt, withProcess, channelAt, withChannel, broadcasted, roomFor, done, refused}
+use Rattle.system.specs.System.{processAt, variablesAt, withProcess, channelAt, withChannel, trustAt, withTrust, trusting, broadcasted, roomFor, done, refused}
 use Rattle.sound.specs.Sound.{soundSystem}
+use Rattle.plan.specs.declared.Change.{Change}
 use Rattle.plan.specs.declared.Plan.{Plan}
 use Rattle.plan.specs.declared.Scope.{Scope}
 use Rattle.plan.specs.declared.Action.{Action}
@@ -21,7 +23,7 @@ use Rattle.plan.specs.Cut.{cutBy}
 
 -- what the acting process plans, where it is not cut
 unfoldable pub planOf : System → Action → Plan
-planOf s (Report p v) = reportPlan (s .n) (p .0) v (variablesAt s (p .0))
+planOf s (Report p v) = reportPlan (s .n) (p .0) v (variablesAt s (p .0)) (trustAt s (p .0))
 planOf s (Receive q p) = receivePlan q (p .0) (variablesAt s (p .0)) (front (channelAt s (q .0) (p .0)))
 planOf s (Respond p q) = respondPlan q (variablesAt s (p .0)) (pendingAt (processAt s (p .0)) (q .0))
 planOf s (Crash p) = crashPlan (variablesAt s (p .0))
@@ -42,10 +44,27 @@ crashedAt s p =
 unfoldable pub crashedIf : Bool → System → ℕ → System
 crashedIf stops s p = pick stops (crashedAt s p) s
 
--- process p changes as its plan says, its message goes out, and it stops or not
+-- Process q leaves the view of process p, where it is there. S-5, of the mark (p, q): "A suspicion begins when q leaves p's local view";
+-- "a beginning suspicion sets it by q's view at that moment".
+unfoldable pub departed : System → ℕ → ℕ → List ℕ → List ℕ
+departed s p q l = pick (has (variablesAt s p .view) q) (trusting l p q (not (has (variablesAt s q .view) p))) l
+
+-- Process p, whose view is still the old one, is told a view without process q, where q is named. S-5, of the mark (q, p): "each new view
+-- of q without p turns it on".
+unfoldable pub suspectedIfNamed : System → ℕ → ℕ → ℕ → List ℕ → List ℕ
+suspectedIfNamed s p suspects q l = pick (has suspects q) (trusting (departed s p q l) q p true) l
+
+-- so for every process of a set
+unfoldable pub doubted : System → ℕ → ℕ → System
+doubted s p suspects = withTrust s (eachUpTo 8 (suspectedIfNamed s p suspects) (s .trust))
+
+unfoldable pub changedAt : System → ℕ → Change → System
+changedAt s p c = withProcess s p (changed (processAt s p) c)
+
+-- process p doubts whom its plan says, changes as it says, its message goes out, and it stops or not
 unfoldable pub effected : System → ℕ → Plan → System
 effected t p a =
-    crashedIf (a .stops) (broadcasted (withProcess t p (changed (processAt t p) (a .change))) p (a .addressees) (a .message)) p
+    crashedIf (a .stops) (broadcasted (changedAt (doubted t p (a .suspects)) p (a .change)) p (a .addressees) (a .message)) p
 
 -- The plan of process p is carried out in t; a refusal returns s, the system handed over. Refusal 7: "a message of this step goes
 -- to a unit that has not stopped, over a line that already holds 8".

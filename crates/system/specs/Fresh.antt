@@ -27,8 +27,10 @@ freshProcess n =
       history = withEntry noEntries 1 (everyone n);
     }
 
+-- S-5: "either value is sound": every mark is off
 unfoldable pub freshSystem : ℕ → System
-freshSystem n = record { n = n; processes = replicate 8 (freshProcess n); channels = replicate 64 emptyChannel }
+freshSystem n =
+    record { n = n; processes = replicate 8 (freshProcess n); channels = replicate 64 emptyChannel; trust = replicate 8 0 }
 
 unfoldable pub freshOf : ℕ → Outcome
 freshOf n = pick (isOneOf 8 n) (done (freshSystem n)) (refused 2 (freshSystem 0))

@@ -1,9 +1,10 @@
 -- Document 01's table, called the system here: n processes and, between every ordered pair of them, one channel.
 use Prim.Native.Nat.{ℕ, _+_, _-_, _*_}
 use mathlib.Core.Bool.{Bool, _&&_, _||_, not}
+use mathlib.Core.List.{List}
 use lib.ListN.{replicate}
 use Rattle.view.specs.Logic.{pick, allUpTo, eachUpTo, at, put, isOneOf}
-use Rattle.view.specs.View.{has}
+use Rattle.view.specs.View.{has, switched}
 use Rattle.channel.specs.declared.Message.{Message}
 use Rattle.channel.specs.declared.Channel.{Channel}
 use Rattle.channel.specs.Channel.{emptyChannel, hasRoom, pushed}
@@ -25,7 +26,7 @@ abbrev pub variablesAt : System → ℕ → Variables
 variablesAt s p = processAt s p .variables
 
 unfoldable pub withProcess : System → ℕ → Process → System
-withProcess s p x = record { n = s .n; processes = put (s .processes) p x; channels = s .channels }
+withProcess s p x = record { n = s .n; processes = put (s .processes) p x; channels = s .channels; trust = s .trust }
 
 -- which of the sixty-four channels runs from process q to process p, counted from 1; 0 where there is none
 unfoldable pub channelNumber : ℕ → ℕ → ℕ
@@ -36,7 +37,25 @@ unfoldable pub channelAt : System → ℕ → ℕ → Channel
 channelAt s q p = at (s .channels) (channelNumber q p) emptyChannel
 
 unfoldable pub withChannel : System → ℕ → ℕ → Channel → System
-withChannel s q p c = record { n = s .n; processes = s .processes; channels = put (s .channels) (channelNumber q p) c }
+withChannel s q p c =
+    record { n = s .n; processes = s .processes; channels = put (s .channels) (channelNumber q p) c; trust = s .trust }
+
+-- ---- trust
+-- S-5: "The table keeps one mark per ordered pair": the processes that process p may trust again, those q for which the mark (p, q) is on
+unfoldable pub trustAt : System → ℕ → ℕ
+trustAt s p = at (s .trust) p 0
+
+abbrev pub mayTrust : System → ℕ → ℕ → Bool
+mayTrust s p q = has (trustAt s p) q
+
+unfoldable pub withTrust : System → List ℕ → System
+withTrust s l = record { n = s .n; processes = s .processes; channels = s .channels; trust = l }
+
+-- the sets of all processes, the mark (p, q) being on or off as the test says
+unfoldable pub trusting : List ℕ → ℕ → ℕ → Bool → List ℕ
+trusting l p q on = put l p (switched (at l p 0) q on)
+
+-- ---- messages
 
 -- one message from q to p: "A message sent to a stopped unit vanishes and needs no room."
 unfoldable pub sent : System → ℕ → ℕ → Message → System

@@ -50,6 +50,8 @@ pub struct System {
     pub n: u8,
     pub processes: [Process; 8],
     pub channels: [Channel; 64],
+    // For each process, the set of those that it may trust again.
+    pub trust: [u8; 8],
 }
 
 // The number 0 and the next system, or a refusal number and the same system.
@@ -91,10 +93,12 @@ fn fresh_system(n: u8) -> System
     let c = channel::empty();
     let processes = [p; 8];
     let channels = [c; 64];
+    let trust = [0u8; 8];
     System {
         n,
         processes,
         channels,
+        trust,
     }
 }
 

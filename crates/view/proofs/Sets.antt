@@ -1,17 +1,18 @@
 -- Laws of views as sets of processes.
 use Prim.Native.Nat.{ℕ, zero, suc, _≤_, _<_, _-_, _/_, _%_, _^_}
 use mathlib.Core.Path.{_≡_, refl, sym, _∙_, ap, subst}
-use mathlib.Core.Bool.{Bool, true, false, _&&_, _||_, not}
+use mathlib.Core.Bool.{Bool, true, false, _&&_, _||_, not, Bool·beq, and-true}
 use mathlib.Core.Logic.{_⊎_, inl, inr, ⊎-elim}
 use native.Mathlib.Omega.{arith}
+use native.Mathlib.Decide.{decLe}
 use native.Mathlib.Nat.{zero-div, zero-mod, mod-lt}
 use borrow.Author.Tests.{eqb-true, leb-true, le-leb}
 use lib.Dec.{eqb, leb, ltb}
 use lib.Count.{ones, onesIn}
-use lib.Bits.{bitAnd, bitOr, and-shr, or-shr, and-mod, or-mod}
+use lib.Bits.{bitAnd, bitOr, bitXor, and-shr, or-shr, xor-shr, and-mod, or-mod, xor-mod}
 use Rattle.view.specs.Logic.{pick, eachUpTo, isOneOf}
-use Rattle.view.specs.View.{has, within, subset, with, countedAt, countOf, joined, firstOf}
-use Rattle.view.proofs.Laws.{and-left, and-right, and-intro, one-of, all-elim, all-intro, or-cases, true-is-not-false, by-pick, each-keeps}
+use Rattle.view.specs.View.{has, within, subset, with, minus, switched, everyone, countedAt, countOf, joined, firstOf}
+use Rattle.view.proofs.Laws.{and-left, and-right, and-intro, one-of, all-elim, all-intro, or-cases, true-is-not-false, by-pick, by-test, same-true, each-keeps}
 use Rattle.view.proofs.Table.{everyBelow, below}
 
 -- a process that a view names has a number from 1 to 8
@@ -173,3 +174,75 @@ first-has m v u =
   where
     Inside : ℕ → Type 0
     Inside w = has w u ≡ true → has v u ≡ true
+
+-- ---- the processes of one view that another lacks
+bit-minus : (a b k : ℕ) → bit (minus a b) k ≡ minus (bit a k) (bit b k)
+unfolding minus
+bit-minus a b k = rw (xor-shr a (bitAnd a b) k) (xor-mod (a / 2 ^ k) (bitAnd a b / 2 ^ k) 1 ∙ ap (bitXor (bit a k)) (bit-and a b k))
+
+minus-test : (x y : ℕ) → x < 2 → y < 2 → eqb (minus x y) 1 ≡ (eqb x 1 && not (eqb y 1))
+unfolding minus
+minus-test x y h k =
+    two (λ z. eqb (minus z y) 1 ≡ (eqb z 1 && not (eqb y 1)))
+    (two (λ w. eqb (minus 0 w) 1 ≡ (eqb 0 1 && not (eqb w 1))) refl refl y k)
+    (two (λ w. eqb (minus 1 w) 1 ≡ (eqb 1 1 && not (eqb w 1))) refl refl y k)
+    x
+    h
+
+pub has-minus : (a b u : ℕ) → has (minus a b) u ≡ (has a u && not (has b u))
+unfolding has
+has-minus a b u =
+    let k = u - 1 in
+    ap (λ (x : Bool). isOneOf 8 u && x) (ap (λ (x : ℕ). eqb x 1) (bit-minus a b k) ∙ minus-test (bit a k) (bit b k) (bit-small a k) (bit-small b k))
+    ∙ apart (isOneOf 8 u) (eqb (bit a k) 1) (eqb (bit b k) 1)
+  where
+    apart : (n x y : Bool) → (n && (x && not y)) ≡ ((n && x) && not (n && y))
+    apart true x y = refl
+    apart false x y = refl
+
+-- ---- one process in or out, and the others as they were
+pub with-other : (v q u : ℕ) → 1 ≤ q → q ≤ 8 → (u ≡ q → ⊥) → has (with v q) u ≡ has v u
+with-other v q u l h n =
+    by-test (has v u)
+    (λ e. with-old v q u l h e ∙ sym e)
+    (λ e.
+    by-test (has (with v q) u)
+    (λ f. ⊎-elim (λ g. true-is-not-false (sym g ∙ e)) (λ same. absurd (n same)) (has-with v q u l h f))
+    (λ f. f ∙ sym e))
+
+not-named : (u : ℕ) → has 0 u ≡ false
+not-named u = by-test (has 0 u) (λ e. absurd (has-none u e)) (λ e. e)
+
+module _ (v q : ℕ) (l : 1 ≤ q) (h : q ≤ 8) (on : Bool) where
+  pub switched-same : has (switched v q on) q ≡ on
+  unfolding switched
+  switched-same =
+      by-pick (λ (w : ℕ). has w q ≡ on) on _ _
+      (λ e. with-new v q l h ∙ sym e)
+      (λ e. has-minus v (with 0 q) q ∙ ap (λ (x : Bool). has v q && not x) (with-new 0 q l h) ∙ none (has v q) ∙ sym e)
+    where
+      none : (x : Bool) → (x && false) ≡ false
+      none true = refl
+      none false = refl
+
+  pub switched-other : (u : ℕ) → (u ≡ q → ⊥) → has (switched v q on) u ≡ has v u
+  unfolding switched
+  switched-other u n =
+      by-pick (λ (w : ℕ). has w u ≡ has v u) on _ _
+      (λ e. with-other v q u l h n)
+      (λ e. has-minus v (with 0 q) u ∙ ap (λ (x : Bool). has v u && not x) (with-other 0 q u l h n ∙ not-named u) ∙ and-true (has v u))
+
+-- ---- all of n processes
+pub everyone-has : (n u : ℕ) → n ≤ 8 → has (everyone n) u ≡ isOneOf n u
+unfolding has everyone pick
+everyone-has n u h =
+    elim (decLe u 8) [
+      | yes low ↦ same-true _ _ (below 9 (λ k. Bool·beq (has (everyone n) k) (isOneOf n k)) (below 9 (λ m. everyBelow 9 (λ k. Bool·beq (has (everyone m) k) (isOneOf m k))) refl n (omega arith)) u (omega arith))
+      | no high ↦ by-test (has (everyone n) u)
+          (λ e. absurd (high (has-number (everyone n) u e .1)))
+          (λ e. e ∙ sym (beyond (isOneOf n u) refl high))
+    ]
+  where
+    beyond : (b : Bool) → isOneOf n u ≡ b → (u ≤ 8 → ⊥) → b ≡ false
+    beyond true e past = absurd (past (omega (arith, one-of n u e)))
+    beyond false e past = refl

@@ -3,7 +3,7 @@
 use Prim.Native.Nat.{ℕ, zero, suc, _+_, _-_, _/_, _%_, _^_}
 use mathlib.Core.Bool.{Bool, _&&_, _||_, not}
 use lib.Dec.{leb, ltb, eqb}
-use lib.Bits.{bitAnd, bitOr}
+use lib.Bits.{bitAnd, bitOr, bitXor}
 use Rattle.view.specs.declared.ProcessId.{ProcessId}
 use Rattle.view.specs.Logic.{pick, allUpTo, eachUpTo, isOneOf}
 
@@ -22,6 +22,14 @@ subset a b = eqb (bitAnd a b) a
 -- the view with process k added; a number that no process can have adds nothing
 unfoldable pub with : ℕ → ℕ → ℕ
 with v k = pick (isOneOf 8 k) (bitOr v (2 ^ (k - 1))) v
+
+-- the processes of a that b lacks
+unfoldable pub minus : ℕ → ℕ → ℕ
+minus a b = bitXor a (bitAnd a b)
+
+-- the view with process k or without it, as the test says
+unfoldable pub switched : ℕ → ℕ → Bool → ℕ
+switched v k on = pick on (with v k) (minus v (with 0 k))
 
 -- the set of all of n processes, of which there are at most eight
 unfoldable pub everyone : ℕ → ℕ

@@ -2,7 +2,7 @@
 ghost use mathlib.Core.Path.{_≡_};
 ghost use mathlib.Core.Bool.{_&&_, _||_};
 ghost use Rattle.view.specs.Logic.{isOneOf, placeOf};
-ghost use Rattle.view.specs.View.{has, within, subset, with, everyone, leastOf, countOf, joined, firstOf};
+ghost use Rattle.view.specs.View.{has, within, subset, with, minus, switched, everyone, leastOf, countOf, joined, firstOf};
 
 // Document 01: "A unit's number and a position in the history each keep a kind of their own".
 // The number of a process, counted from 1.
@@ -78,6 +78,24 @@ pub fn with(view: u8, p: ProcessId) -> u8
         view | (1 << (k - 1))
     } else {
         view
+    }
+}
+
+// The processes of a that b lacks.
+pub fn minus(a: u8, b: u8) -> u8
+    ensures { λ r. ⌜ r ≡ minus a b ⌝ }
+{
+    a ^ (a & b)
+}
+
+// The view with a process or without it, as the test says.
+pub fn switched(view: u8, p: ProcessId, on: bool) -> u8
+    ensures { λ r. ⌜ r ≡ switched view (p .0) on ⌝ }
+{
+    if on {
+        with(view, p)
+    } else {
+        minus(view, with(0, p))
     }
 }
 

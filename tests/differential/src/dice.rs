@@ -77,7 +77,7 @@ impl Dice {
 
     pub fn mix(&mut self, n: u8) -> Mix {
         let slow = if self.one_in(2) { self.one_of(n) } else { ProcessId(0) };
-        Mix { reports: self.pick(&[2, 8, 30]), slow, cuts: self.pick(&[0, 0, 60, 12]) }
+        Mix { reports: self.pick(&[2, 8, 30]), slow, cuts: self.pick(&[0, 60, 12]) }
     }
 
     /// The action, whole, or now and then cut after a count that may be too high.
@@ -161,6 +161,11 @@ impl Dice {
         let answer = Action::Respond { p: q, to: p };
         let ahead = if self.one_in(4) { 31 } else { self.roll(31) };
         let mut steps = alone.repeat(ahead);
+        // The others of the view doubt first, each alone, so that all of them may be trusted again.
+        for r in view.without(q).members() {
+            steps.push(Action::Report { p: r, view: View::only(r) });
+            steps.push(Action::Receive { from: r, at: r });
+        }
         steps.push(Action::Report { p: q, view });
         if self.one_in(2) {
             let times = self.pick(&[1, 2, 4, 8, 8]);

@@ -2,13 +2,14 @@
 
 use crate::dice::Dice;
 use reference::image::{
-    channel_at, decode, process_at, record_in, Image, CHANNEL_BYTES, LENGTH_IN, PROCESS_BYTES,
+    channel_at, decode, marks_at, process_at, record_in, Image, CHANNEL_BYTES, LENGTH_IN,
+    PROCESS_BYTES,
 };
 use reference::{Message, ProcessId};
 
 /// The places that mean nothing in an image of a system of 1 to 8 processes: processes past n and
-/// channels at them, records of them, records of nothing, slots past a channel's length, and the
-/// second operand of an Acc.
+/// channels at them, records of them, their marks, records of nothing, slots past a channel's length,
+/// and the second operand of an Acc.
 fn unused(image: &Image) -> Vec<usize> {
     let system = decode(image);
     let mut places = Vec::new();
@@ -16,6 +17,7 @@ fn unused(image: &Image) -> Vec<usize> {
     for p in (1..=8).map(ProcessId) {
         if p.0 > system.n {
             add(process_at(p), PROCESS_BYTES);
+            add(marks_at(p), 1);
         }
         for q in (1..=8).map(ProcessId) {
             let (record, channel) = (process_at(p) + record_in(q), channel_at(q, p));
@@ -52,6 +54,11 @@ pub fn litter(dice: &mut Dice, image: &mut Image) {
         if dice.one_in(apart) {
             image[place] = if dice.one_in(3) { 255 } else { dice.byte() };
         }
+    }
+    // Marks of processes past n stand beside those that mean something.
+    for p in before.everyone().members() {
+        let stray = if dice.one_in(apart) { dice.byte() & !before.everyone().0 } else { 0 };
+        image[marks_at(p)] |= stray;
     }
     assert!(decode(image) == before);
 }

@@ -13,7 +13,8 @@ pub fn disturb(dice: &mut Dice, system: &mut System) {
     let both = dice.some_of(n).with(p).with(q);
     let proposal = Proposal { view: both, index };
     let process = system.process_mut(p);
-    match dice.roll(6) {
+    match dice.roll(7) {
+        6 => system.set_mark(p, q, dice.one_in(2)),
         0 => process.propout = if dice.one_in(2) { GroupIndex(32) } else { index },
         1 => process.next = GroupIndex(index.0 + 1),
         2 => process.acks = both,

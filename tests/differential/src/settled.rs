@@ -86,29 +86,34 @@ fn otherwise(system: &System, order: Order) -> (usize, System) {
 }
 
 /// Turns from a fresh system after which, in a settling run, units answer one proposal with Retries to
-/// different positions, and it matters which is taken first.
+/// different positions, and it matters which is taken first. Each unit goes alone, so that it may be
+/// trusted again, and some of them further than others; then all come together, the first one last.
 pub fn race(dice: &mut Dice, n: u8) -> Vec<Turn> {
     let mut turns = Vec::new();
+    let mut add = |action: Action| turns.push(Turn::Step(action.into()));
     let everyone = View::first(n);
-    let alone = |p| Action::Report { p, view: View::only(p) };
-    for p in everyone.members().skip(1) {
-        turns.extend(vec![alone(p); dice.roll(5)]);
-    }
-    let mut turns: Vec<Turn> = turns.into_iter().map(|action| Turn::Step(action.into())).collect();
-    turns.push(Turn::Settle);
-    let mut add = |actions: &[Action]| {
-        turns.extend(actions.iter().map(|&action| Turn::Step(action.into())));
-    };
     let one = ProcessId(1);
-    add(&[Action::Report { p: one, view: everyone }]);
+    let alone = |p| Action::Report { p, view: View::only(p) };
+    let together = |p| Action::Report { p, view: everyone };
+    add(alone(one));
     for p in everyone.members().skip(1) {
-        let together = Action::Report { p, view: everyone };
-        add(&[together]);
-        if dice.one_in(2) {
-            add(&[Action::Receive { from: one, at: p }, Action::Respond { p, to: one }]);
+        for _ in 0..1 + dice.roll(4) {
+            add(alone(p));
+        }
+    }
+    turns.push(Turn::Settle);
+    let mut add = |action: Action| turns.push(Turn::Step(action.into()));
+    everyone.members().skip(1).for_each(|p| add(together(p)));
+    for _ in 0..1 + dice.roll(2) {
+        add(together(one));
+    }
+    for _ in 0..2 {
+        for p in everyone.members().skip(1) {
             if dice.one_in(2) {
-                let own = Action::Receive { from: p, at: p };
-                add(&[alone(p), own, Action::Respond { p, to: p }, together]);
+                add(Action::Receive { from: one, at: p });
+                if dice.one_in(2) {
+                    add(Action::Respond { p, to: one });
+                }
             }
         }
     }

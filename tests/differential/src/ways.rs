@@ -2,7 +2,7 @@
 
 use crate::faults::{DAMAGES, FAULTS};
 use crate::lines::{FIRST, LATER};
-use reference::{Action, Message, Process, ProcessId, Step, System, View, CAPACITY};
+use reference::{Action, Message, Process, ProcessId, Step, System, View, CAPACITY, LAST_INDEX};
 use std::collections::{BTreeMap, BTreeSet};
 
 /// Each way is met at least so often, where it can be met at all.
@@ -13,6 +13,9 @@ pub const AT_LEAST: u64 = 20;
 const STEPS: &[&str] = &[
     "0 report, proposing",
     "0 report, not least",
+    "0 report, bringing back",
+    "0 report, beginning a suspicion",
+    "0 report, going on with one",
     "0 take, Propose",
     "0 take, Retry acted on",
     "0 take, Retry ignored",
@@ -73,6 +76,13 @@ const STEPS: &[&str] = &[
     "12 take, nothing sent",
     "12 answer",
     "12 and a line full",
+    "13 report",
+    "13 report, of several one",
+    "13 report, of a stopped unit",
+    "13 report, history full",
+    "13 report, a line full",
+    "13 cut",
+    "13 cut, too many",
 ];
 
 /// How a settling run of a sound system comes to its end, by images and by sheets. No system is known
@@ -192,6 +202,15 @@ pub fn way(before: &System, step: Step, number: u8) -> &'static str {
         return cut_way(before, step.action, k, number);
     }
     match (step.action, number) {
+        (Action::Report { p, view }, 0) if !back(before, p, view).is_empty() => {
+            "0 report, bringing back"
+        }
+        (Action::Report { p, view }, 0) if !before.process(p).view.is_subset(view) => {
+            "0 report, beginning a suspicion"
+        }
+        (Action::Report { view, .. }, 0) if view != before.everyone() => {
+            "0 report, going on with one"
+        }
         (Action::Report { p, view }, 0) if least(view) == p => "0 report, proposing",
         (Action::Report { .. }, 0) => "0 report, not least",
         (Action::Receive { from, at }, 0) => taken(before, from, at),
@@ -247,6 +266,7 @@ pub fn way(before: &System, step: Step, number: u8) -> &'static str {
             false => "6 Retry",
         },
         (Action::Report { .. }, 7) => "7 report",
+        (Action::Report { p, view }, 13) => early(before, p, view),
         (Action::Receive { from, at }, 7) => match before.channel(from, at).first() {
             Some(Message::Retry { .. }) => "7 Retry",
             _ => "7 Commit",
@@ -256,6 +276,30 @@ pub fn way(before: &System, step: Step, number: u8) -> &'static str {
             false => "7 answer, Retry",
         },
         (_, other) => panic!("{step:?} gave {other}"),
+    }
+}
+
+/// Those whom a report brings back.
+fn back(before: &System, p: ProcessId, view: View) -> Vec<ProcessId> {
+    view.members().filter(|&q| !before.process(p).view.contains(q)).collect()
+}
+
+/// How a report comes to be too early.
+fn early(before: &System, p: ProcessId, view: View) -> &'static str {
+    let proposes = least(view) == p;
+    let full = |q: ProcessId| !before.process(q).crashed && is_full(before, p, q);
+    let (trusted, others): (Vec<ProcessId>, Vec<ProcessId>) =
+        back(before, p, view).into_iter().partition(|&q| before.mark(p, q));
+    if proposes && before.process(p).propout.0 == LAST_INDEX {
+        "13 report, history full"
+    } else if proposes && view.members().any(full) {
+        "13 report, a line full"
+    } else if others.iter().any(|&q| before.process(q).crashed) {
+        "13 report, of a stopped unit"
+    } else if trusted.is_empty() {
+        "13 report"
+    } else {
+        "13 report, of several one"
     }
 }
 
@@ -288,6 +332,8 @@ fn cut_way(before: &System, action: Action, k: u8, number: u8) -> &'static str {
         (Action::Report { .. }, 12) => "12 report, too many",
         (Action::Receive { .. }, 12) => "12 take, too many",
         (Action::Respond { .. }, 12) => "12 answer",
+        (_, 13) if usize::from(k) >= to.len() => "13 cut, too many",
+        (_, 13) => "13 cut",
         (_, other) => panic!("{action:?} cut after {k} gave {other}"),
     }
 }

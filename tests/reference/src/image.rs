@@ -8,7 +8,7 @@ use crate::system::{System, CAPACITY};
 use crate::view::{ProcessId, View};
 
 /// The size of an image.
-pub const SIZE: usize = 2097;
+pub const SIZE: usize = 2105;
 
 pub type Image = [u8; SIZE];
 
@@ -35,6 +35,11 @@ pub fn channel_at(q: ProcessId, p: ProcessId) -> usize {
     497 + 200 * (usize::from(q.0) - 1) + 25 * (usize::from(p.0) - 1)
 }
 
+/// Where the marks of p are: bit q - 1 is that of (p, q).
+pub fn marks_at(p: ProcessId) -> usize {
+    2097 + (usize::from(p.0) - 1)
+}
+
 /// Where, in a channel, its length is.
 pub const LENGTH_IN: usize = 24;
 
@@ -59,6 +64,9 @@ pub fn decode(image: &Image) -> System {
             None => system.unreadable = true,
         }
     }
+    for (p, q) in system.pairs() {
+        system.set_mark(p, q, View(image[marks_at(p)]).contains(q));
+    }
     system
 }
 
@@ -72,6 +80,10 @@ pub fn encode(system: &System) -> Image {
     }
     for (q, p) in system.pairs() {
         encode_channel(system.channel(q, p), &mut image[channel_at(q, p)..][..CHANNEL_BYTES]);
+    }
+    for p in system.everyone().members() {
+        let marked = system.everyone().members().filter(|&q| system.mark(p, q));
+        image[marks_at(p)] = marked.fold(View::EMPTY, View::with).0;
     }
     image
 }

@@ -27,6 +27,8 @@ pub enum Refusal {
     OtherView,
     /// The step would not send more messages than it is cut after.
     CutTooLate,
+    /// A report brings back a process that may not be trusted yet.
+    EarlyTrust,
 }
 
 /// What a step answers.
@@ -48,6 +50,7 @@ pub fn number(outcome: Outcome) -> u8 {
         Err(Refusal::NoRecord) => 10,
         Err(Refusal::OtherView) => 11,
         Err(Refusal::CutTooLate) => 12,
+        Err(Refusal::EarlyTrust) => 13,
     }
 }
 

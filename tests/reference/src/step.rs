@@ -119,6 +119,26 @@ fn reported(
 ) -> Result<System, Refusal> {
     let odd = !view.is_subset(after.everyone()) || !view.contains(p);
     refuse_if(odd, Refusal::OddView)?;
+    // S-5: "a report that brings back a unit q is refused unless, at some
+    // moment since p's latest suspicion of q (that moment counted), q's local
+    // view lacked p .. The table keeps one mark per ordered pair, which alone
+    // decides". "13 early trust, after 4 and before 5".
+    let old = after.process(p).view;
+    let early = view.members().any(|q| !old.contains(q) && !after.mark(p, q));
+    refuse_if(early, Refusal::EarlyTrust)?;
+    for q in after.everyone().members() {
+        // "A suspicion begins when q leaves p's local view": "a beginning
+        // suspicion sets it by q's view at that moment"
+        if old.contains(q) && !view.contains(q) {
+            let lacks = !after.process(q).view.contains(p);
+            after.set_mark(p, q, lacks);
+        }
+        // "and each new view of q without p turns it on": here p has the new
+        // view, and q is the one without whom it is.
+        if !view.contains(q) {
+            after.set_mark(q, p, true);
+        }
+    }
     let process = after.process_mut(p);
     // "The local view becomes this view."
     process.view = view;

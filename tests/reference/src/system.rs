@@ -25,6 +25,9 @@ pub struct System {
     processes: Vec<Process>,
     /// The channel from q to p is at q - 1, and there at p - 1.
     channels: Vec<Vec<Channel>>,
+    /// S-5: "The table keeps one mark per ordered pair". That of (p, q) is at
+    /// p - 1, and there at q - 1.
+    marks: Vec<Vec<bool>>,
 }
 
 /// "A request for n outside 1 to 8 gives refusal 2 and a table of zero
@@ -45,6 +48,7 @@ impl System {
             unreadable: false,
             processes: vec![Process::initial(View::first(n)); there],
             channels: vec![vec![Channel::new(); there]; there],
+            marks: vec![vec![false; there]; there],
         }
     }
 
@@ -75,5 +79,14 @@ impl System {
 
     pub fn channel_mut(&mut self, from: ProcessId, to: ProcessId) -> &mut Channel {
         &mut self.channels[usize::from(from.0) - 1][usize::from(to.0) - 1]
+    }
+
+    /// The mark of two processes from 1 to n, in this order; panics for others.
+    pub fn mark(&self, p: ProcessId, q: ProcessId) -> bool {
+        self.marks[usize::from(p.0) - 1][usize::from(q.0) - 1]
+    }
+
+    pub fn set_mark(&mut self, p: ProcessId, q: ProcessId, on: bool) {
+        self.marks[usize::from(p.0) - 1][usize::from(q.0) - 1] = on;
     }
 }

@@ -68,6 +68,7 @@ fn retry_sends_the_local_view() {
 fn commit_carries_the_last_proposed_view() {
     let mut system = system(3);
     assert_eq!(report(&mut system, id(2), View(6)), Ok(()));
+    system.set_mark(id(2), id(1), true);
     assert_eq!(report(&mut system, id(2), View(7)), Ok(()));
     put(&mut system, 2, 2, &[acc(2)]);
     put(&mut system, 3, 2, &[acc(2)]);

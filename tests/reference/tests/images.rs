@@ -3,7 +3,9 @@
 mod common;
 
 use common::*;
-use reference::image::{channel_at, decode, encode, entry_in, process_at, record_in, Image, SIZE};
+use reference::image::{
+    channel_at, decode, encode, entry_in, marks_at, process_at, record_in, Image, SIZE,
+};
 use reference::*;
 
 /// A system of seven in which every record, every position and every slot of
@@ -30,6 +32,7 @@ fn full() -> System {
                 _ => commit(view, i + q),
             });
             put(&mut system, q, p.0, &messages);
+            system.set_mark(p, id(q), (p.0 + q) % 2 == 0);
         }
     }
     assert!(sound(&system));
@@ -39,7 +42,7 @@ fn full() -> System {
 #[test]
 fn fresh_image() {
     let image = encode(&system(2));
-    assert_eq!(image.len(), 2097);
+    assert_eq!(image.len(), 2105);
     assert_eq!(image[0], 2);
     for p in 0..2 {
         let mut expected = [0; 62];
@@ -83,6 +86,10 @@ fn places() {
     assert_eq!(channel[..12], [0, 1, 2, 1, 3, 4, 2, 5, 0, 3, 6, 7]);
     assert_eq!(channel[24], 4);
     assert_eq!(decode(&image), system);
+    system.set_mark(id(2), id(3), true);
+    system.set_mark(id(8), id(1), true);
+    assert_eq!(encode(&system)[2097..], [0, 4, 0, 0, 0, 0, 0, 1]);
+    assert_eq!(decode(&encode(&system)), system);
 }
 
 #[test]
@@ -97,12 +104,19 @@ fn within(at: usize) -> bool {
         || at >= 497 && (at - 497) / 200 < 7 && (at - 497) % 200 < 175
 }
 
-/// With 255 in any byte of the table there is no sound system any more; any
-/// other byte may be anything.
+/// With 255 in any byte of the table there is no sound system any more, marks
+/// apart: "either value is sound". Any other byte may be anything.
 #[test]
 fn each_byte() {
     let (system, clean) = (full(), encode(&full()));
-    for place in 0..SIZE {
+    for p in (1..=7).map(id) {
+        let mut image = clean;
+        image[marks_at(p)] = 255;
+        let read = decode(&image);
+        assert!(sound(&read));
+        assert!((1..=7).map(id).all(|q| read.mark(p, q)));
+    }
+    for place in (0..SIZE).filter(|&place| !(2097..2104).contains(&place)) {
         let mut image = clean;
         image[place] = 255;
         match within(place) {
@@ -154,6 +168,8 @@ fn bytes_that_mean_nothing() {
         channel_at(one, one) + 23,
         channel_at(one, id(2)) + 24,
         channel_at(id(8), id(8)) + 24,
+        marks_at(id(2)),
+        marks_at(id(8)),
     ];
     for place in places {
         assert_eq!(decode(&changed(place, 255)), system(1), "at {place}");
@@ -164,4 +180,6 @@ fn bytes_that_mean_nothing() {
     let mut image = encode(&with_acc);
     image[channel_at(one, one) + 2] = 200;
     assert_eq!(decode(&image), with_acc);
+    // Marks of processes past n.
+    assert_eq!(decode(&changed(marks_at(one), 254)), system(1));
 }

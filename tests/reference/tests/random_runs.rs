@@ -127,15 +127,58 @@ fn steps_from_fresh() {
     }
     // The runs reach every answer that a step has but 1, and commit views.
     for (number, &count) in seen.iter().enumerate() {
-        assert_eq!(count > 0, matches!(number, 0 | 2..=7 | 10 | 11), "{number}: {seen:?}");
+        assert_eq!(count > 0, matches!(number, 0 | 2..=7 | 10 | 11 | 13), "{number}: {seen:?}");
     }
     assert!(written > 300, "{written}");
 }
 
 /// Only a report that proposes nothing, of the view that p has, is done and
-/// changes nothing.
+/// changes nothing: whoever it lacks may trust p already.
 fn changes_nothing(system: &System, step: Action) -> bool {
     matches!(step, Action::Report { p, view } if view.min() != Some(p) && system.process(p).view == view)
+}
+
+/// What S-5 says of p and q, told from the views at each moment, the latest
+/// last: "at some moment since p's latest suspicion of q (that moment
+/// counted), q's local view lacked p".
+fn doubted_since(moments: &[System], p: ProcessId, q: ProcessId) -> bool {
+    let lacks = |system: &System, p, q| !system.process(p).view.contains(q);
+    moments.iter().rev().take_while(|&now| lacks(now, p, q)).any(|now| lacks(now, q, p))
+}
+
+/// A mark means just that, while p suspects q; and a report is refused with 13
+/// for nothing else.
+#[test]
+fn marks_from_fresh() {
+    let mut dice = Dice { state: 0x5eed, reports: 60 };
+    let (mut on, mut off, mut early) = (0, 0, 0);
+    for run in 0..120 {
+        let n = 2 + (run % 7) as u8;
+        let mut moments = vec![system(n)];
+        for _ in 0..200 {
+            let mut next = moments[moments.len() - 1].clone();
+            let step = dice.likely_step(&next);
+            let outcome = step.run(&mut next);
+            if let Action::Report { p, view } = step {
+                let known = |q: ProcessId| (1..=n).contains(&q.0);
+                if known(p) && view.is_subset(next.everyone()) && view.contains(p) {
+                    let now = &moments[moments.len() - 1];
+                    let back = view.members().filter(|&q| !now.process(p).view.contains(q));
+                    let told = back.into_iter().all(|q| doubted_since(&moments, p, q));
+                    let stopped = now.process(p).crashed;
+                    assert_eq!(outcome == Err(Refusal::EarlyTrust), !told && !stopped);
+                    early += u32::from(!told && !stopped);
+                }
+            }
+            moments.push(next);
+            let now = &moments[moments.len() - 1];
+            for (p, q) in now.pairs().filter(|&(p, q)| !now.process(p).view.contains(q)) {
+                assert_eq!(now.mark(p, q), doubted_since(&moments, p, q), "{p:?} {q:?}");
+                *if now.mark(p, q) { &mut on } else { &mut off } += 1;
+            }
+        }
+    }
+    assert!(on > 1000 && off > 1000 && early > 1000, "{on} {off} {early}");
 }
 
 /// Some bytes of the image, changed.
@@ -151,7 +194,7 @@ fn damage(dice: &mut Dice, image: &mut Image) {
 fn steps_on_damaged_images() {
     let mut dice = Dice { state: 12345, reports: 10 };
     let mut seen = [0u32; 32];
-    for run in 0..3000 {
+    for run in 0..4000 {
         let n = 1 + (run % 8) as u8;
         let mut start = system(n);
         for _ in 0..run % 60 {
@@ -167,5 +210,8 @@ fn steps_on_damaged_images() {
             seen[usize::from(number(outcome))] += 1;
         }
     }
-    assert!([0, 1, 2, 3, 4, 5, 10].iter().all(|&number: &usize| seen[number] > 100), "{seen:?}");
+    assert!(
+        [0, 1, 2, 3, 4, 5, 10, 13].iter().all(|&number: &usize| seen[number] > 100),
+        "{seen:?}"
+    );
 }

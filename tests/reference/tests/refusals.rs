@@ -47,8 +47,9 @@ fn numbers_of_the_table() {
         Refusal::NoRecord,
         Refusal::OtherView,
         Refusal::CutTooLate,
+        Refusal::EarlyTrust,
     ];
-    let numbers = [1, 2, 3, 4, 5, 6, 7, 8, 9, 10, 11, 12];
+    let numbers = [1, 2, 3, 4, 5, 6, 7, 8, 9, 10, 11, 12, 13];
     assert_eq!(table.map(|refusal| number(Err(refusal))), numbers);
     assert_eq!(number(Ok(())), 0);
 }

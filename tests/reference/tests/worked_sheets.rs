@@ -71,8 +71,8 @@ fn what_survives() {
     // A record waits through other views, refused answers and its proposer's
     // stop; the answer clears it.
     check(
-        "u 2; r 1 12; t 1 2; r 2 2; a 2 1; s 1; a 2 1; r 2 12; a 2 1; a 2 1",
-        "00 0 b 0 b 0 0 a",
+        "u 2; r 1 12; t 1 2; r 2 2; a 2 1; r 1 1; s 1; a 2 1; r 2 12; a 2 1; a 2 1",
+        "00 0 b 00 b 0 0 a",
         "unit 1 stopped next 2 1=12; unit 2 live next 3 1=12",
     );
     // A mark outlives the unit that acknowledged.
@@ -85,8 +85,8 @@ fn what_survives() {
     );
     // A report by another than the least leaves the proposal and its marks.
     check(
-        "u 2; r 2 2; t 2 2; a 2 2; r 2 12; t 2 2; t 2 2",
-        "000 0 00",
+        "u 2; r 2 2; t 2 2; a 2 2; r 1 1; r 2 12; t 2 2; t 2 2",
+        "000 00 00",
         "unit 1 live next 2 1=12; unit 2 live next 3 1=12 2=2",
     );
     // An equal view is proposed again, one position higher.

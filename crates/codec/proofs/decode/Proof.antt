@@ -1,4 +1,4 @@
--- `codec::decode`: by the length. After i turns the first i processes are read; then, after j more, the first j channels.
+-- `codec::decode`: by the length. After i turns the first i processes are read; then, after j more, the first j channels; the sets of trust last.
 use Prim.Native.Nat.{_-_}
 use mathlib.Core.Path.{_≡_}
 use native.Mathlib.Omega.{arith}
@@ -46,8 +46,8 @@ loop2-again c =
 returns : tie.Need-returns Inv-loop μ-loop Inv-loop2 μ-loop2
 unfolding decoded pick
 returns c =
-    let l = c .before .before in
-    rw (eq-eqb _ _ (l .before .before .before .if1 .taken), all-read (l .loop2 .inv .0) (omega arith), l .loop2 .inv .1)
+    let l = c .before .before .before in
+    rw (eq-eqb _ _ (l .before .before .before .if1 .taken), all-read (l .loop2 .inv .0) (omega arith), l .loop2 .inv .1, c .before .read-trust .ensures)
 
 returns-2 : tie.Need-returns-2 Inv-loop μ-loop Inv-loop2 μ-loop2
 unfolding freshOf pick
@@ -80,6 +80,7 @@ decode-spec =
     (λ c. search needs)
     (λ c. search needs)
     loop2-again
+    (λ c κs. search needs)
     (λ c. search needs)
     returns
     returns-2)

@@ -1,4 +1,4 @@
--- `codec::encode`: by the length; the count, then process after process, then channel after channel.
+-- `codec::encode`: by the length; the count, then process after process, then channel after channel, then the sets of trust.
 use Prim.Native.Nat.{_-_}
 use mathlib.Core.Path.{_≡_}
 use native.Mathlib.Omega.{arith}
@@ -6,7 +6,7 @@ use borrow.Author.Tests.{eq-eqb, ne-eqb}
 use lib.ListN.{length, length-set}
 use Rattle.view.specs.Logic.{pick}
 use Rattle.view.proofs.Laws.{long}
-use Rattle.image.specs.Image.{channelWidth, processWidth, processesPlace, channelsPlace, imageWidth, processBytes, channelBytes, encoded}
+use Rattle.image.specs.Image.{channelWidth, processWidth, processesPlace, channelsPlace, trustPlace, imageWidth, processBytes, channelBytes, encoded}
 use Rattle.codec.proofs.Laws.{all-of, Written, none-written, write-more, all-written, one-put, and-then}
 use borrow.Author.Needs.{needs}
 use Rattle.codec.proofs.encode.Statement.{statement}
@@ -43,13 +43,14 @@ loop2-again c =
 returns : tie.Need-returns Inv-loop μ-loop Inv-loop2 μ-loop2
 unfolding encoded pick
 returns c =
-    let m = c .before in
+    let m = c .before .before .before .before .before .before in
     let l = m .before .before in
     let t = l .before in
     let a = t .before .before .args in
     let n = one-put (a .image .now) 0 (a .t1 .n) (omega arith) in
     let both = and-then channelsPlace n (all-written (l .loop .inv .1) (omega arith)) (omega arith) (omega arith) in
-    let all = and-then imageWidth both (all-written (m .loop2 .inv .1) (omega arith)) (omega arith) (omega arith) in
+    let most = and-then trustPlace both (all-written (m .loop2 .inv .1) (omega arith)) (omega arith) (omega arith) in
+    let all = and-then imageWidth most (c .before .before .put-trust .ensures) (omega arith) (omega arith) in
     rw (eq-eqb _ _ (t .if1 .taken)) (all-of _ _ imageWidth (omega arith) (all .held))
 
 returns-2 : tie.Need-returns-2 Inv-loop μ-loop Inv-loop2 μ-loop2
@@ -83,6 +84,7 @@ encode-spec =
     (λ c. search needs)
     (λ c. search needs)
     loop2-again
+    (λ c κs. search needs)
     (λ c. search needs)
     returns
     returns-2)

@@ -8,10 +8,11 @@ returns : tie.Need-returns
 unfolding planOf
 returns c =
     simp (
-      c .before .before .before .before .o .given .1,
+      c .before .before .before .before .before .o .given .1,
       c .report-plan .ensures,
-      c .before .variables-at .ensures,
+      c .before .trust-at .ensures,
       c .before .before .size .ensures,
+      c .before .before .before .variables-at .ensures,
     )
 
 returns-2 : tie.Need-returns-2
@@ -48,6 +49,7 @@ plan-of-spec =
     tie.close
     (tie.spec
     (λ c. search needs)
+    (λ c κs. search needs)
     (λ c κs. search needs)
     (λ c κs. search needs)
     (λ c κs. search needs)

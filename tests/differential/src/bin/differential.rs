@@ -22,7 +22,7 @@ const RUNS: u64 = 4_000;
 const HANDED_IN: u64 = 30_000;
 const DAMAGED: u64 = 500;
 const SETTLED: u64 = 6_000;
-const SHEETS: u64 = 12_000;
+const SHEETS: u64 = 16_000;
 
 /// A sheet of so many bytes is counted as a long one that is run.
 const LONG: usize = 40_000;

@@ -1,4 +1,4 @@
-//! The guarded commands of Figure 3, whole or cut, with refusals 2 to 12. The system must
+//! The guarded commands of Figure 3, whole or cut, with refusals 2 to 13. The system must
 //! be sound: nothing here tests it, and on another a step may panic. A
 //! refused step leaves the system as it was.
 
@@ -15,6 +15,10 @@ pub fn report(system: &mut System, p: ProcessId, view: View, cut: Option<u8>) ->
     if !view.is_subset(system.everyone()) || !view.contains(p) {
         return Err(Refusal::OddView);
     }
+    let old = system.process(p).view;
+    if !view.is_subset(old.union(system.trusted[p.slot()])) {
+        return Err(Refusal::EarlyTrust);
+    }
     if view.min() == Some(p) {
         let propout = system.process(p).propout;
         if propout.0 >= LAST_INDEX {
@@ -27,9 +31,24 @@ pub fn report(system: &mut System, p: ProcessId, view: View, cut: Option<u8>) ->
     } else {
         require_whole(cut)?;
     }
+    suspect(system, p, View(system.everyone().0 & !view.0));
     system.process_mut(p).view = view;
     stop_if(system, p, cut);
     Ok(())
+}
+
+/// Process p, whose view is still the old one, is to lack these processes: each may trust p again, and
+/// p those that it had and that already lack p.
+fn suspect(system: &mut System, p: ProcessId, lacked: View) {
+    let old = system.process(p).view;
+    for q in lacked.members() {
+        system.trusted[q.slot()] = system.trusted[q.slot()].with(p);
+        if old.contains(q) {
+            let mine = system.trusted[p.slot()];
+            let doubts = !system.process(q).view.contains(p);
+            system.trusted[p.slot()] = if doubts { mine.with(q) } else { mine.without(q) };
+        }
+    }
 }
 
 /// Process p receives the oldest message from q (document 01: take).

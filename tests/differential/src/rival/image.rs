@@ -1,4 +1,4 @@
-//! A system as a fixed run of bytes: n, eight processes, sixty-four channels.
+//! A system as a fixed run of bytes: n, eight processes, sixty-four channels, eight sets of trust.
 
 use super::channel::{Channel, CAPACITY};
 use super::message::{GroupIndex, Message, Proposal};
@@ -15,8 +15,10 @@ const LENGTH: usize = CAPACITY * MESSAGE_BYTES;
 const CHANNEL_BYTES: usize = LENGTH + 1;
 const CHANNELS: usize = 1 + MAX_PROCESSES * PROCESS_BYTES;
 
-/// The size of an image: 2,097 bytes.
-pub const SIZE: usize = CHANNELS + MAX_PROCESSES * MAX_PROCESSES * CHANNEL_BYTES;
+const TRUSTED: usize = CHANNELS + MAX_PROCESSES * MAX_PROCESSES * CHANNEL_BYTES;
+
+/// The size of an image: 2,105 bytes.
+pub const SIZE: usize = TRUSTED + MAX_PROCESSES;
 
 pub type Image = [u8; SIZE];
 
@@ -33,11 +35,14 @@ pub fn decode(image: &Image) -> Option<System> {
     for (process, bytes) in system.processes.iter_mut().zip(processes).take(n) {
         decode_process(process, bytes, n)?;
     }
-    let rows = image[CHANNELS..].chunks_exact(MAX_PROCESSES * CHANNEL_BYTES);
+    let rows = image[CHANNELS..TRUSTED].chunks_exact(MAX_PROCESSES * CHANNEL_BYTES);
     for (row, bytes) in system.channels.iter_mut().zip(rows).take(n) {
         for (channel, bytes) in row.iter_mut().zip(bytes.chunks_exact(CHANNEL_BYTES)).take(n) {
             decode_channel(channel, bytes)?;
         }
+    }
+    for (trusted, &byte) in system.trusted.iter_mut().zip(&image[TRUSTED..]).take(n) {
+        *trusted = View(byte);
     }
     Some(system)
 }
@@ -50,9 +55,12 @@ pub fn encode(system: &System) -> Image {
     for (process, bytes) in system.processes.iter().zip(processes) {
         encode_process(process, bytes);
     }
-    let channels = image[CHANNELS..].chunks_exact_mut(CHANNEL_BYTES);
+    let channels = image[CHANNELS..TRUSTED].chunks_exact_mut(CHANNEL_BYTES);
     for (channel, bytes) in system.channels.iter().flatten().zip(channels) {
         encode_channel(channel, bytes);
+    }
+    for (trusted, byte) in system.trusted.iter().zip(&mut image[TRUSTED..]) {
+        *byte = trusted.0;
     }
     image
 }

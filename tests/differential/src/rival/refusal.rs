@@ -28,6 +28,8 @@ pub enum Refusal {
     OtherView = 11,
     /// The step would not send more messages than it is cut after.
     CutTooLate = 12,
+    /// A report brings back a process that has not doubted the reporter.
+    EarlyTrust = 13,
 }
 
 /// What a step answers.

@@ -17,6 +17,8 @@ pub struct System {
     pub processes: [Process; MAX_PROCESSES],
     /// The channel from p to q is `channels[p - 1][q - 1]`.
     pub channels: [[Channel; MAX_PROCESSES]; MAX_PROCESSES],
+    /// Whom process p may trust again, in slot p - 1.
+    pub trusted: [View; MAX_PROCESSES],
 }
 
 impl System {
@@ -26,6 +28,7 @@ impl System {
             n,
             processes: [Process::initial(View::first(n)); MAX_PROCESSES],
             channels: [[Channel::EMPTY; MAX_PROCESSES]; MAX_PROCESSES],
+            trusted: [View::EMPTY; MAX_PROCESSES],
         }
     }
 

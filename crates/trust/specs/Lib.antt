@@ -1,0 +1,2 @@
+-- What the marks of S-5 mean, told from the list of events.
+pub mod Trust
