@@ -29,7 +29,7 @@ module _ (n : ℕ) where
       each-fresh n (λ (x : Process). (entryAt (x .history) 1 ≡ everyone n) ⊎ (entryAt (x .history) 1 ≡ 0)) (inl (first-entry n)) (inr (no-entry 1)) p
 
   -- nothing is proposed
-  fresh-proposal : (p : ℕ) → variablesAt (freshSystem n) p .proposal ≡ 0
+  pub fresh-proposal : (p : ℕ) → variablesAt (freshSystem n) p .proposal ≡ 0
   unfolding freshVariables freshProcess noProcess
   fresh-proposal p = each-fresh n (λ (x : Process). x .variables .proposal ≡ 0) refl refl p
 

@@ -44,12 +44,12 @@ acceptances s (Receive q p) = []
 acceptances s (Respond p q) = acceptedFrom (p .0) (variablesAt s (p .0)) (pendingAt (processAt s (p .0)) (q .0))
 acceptances s (Crash p) = []
 
-accepts-this : (p : ℕ) (x : Variables) (y : Pending) (v : ℕ) (i : GroupIndex) → y ≡ Proposal v i → x .next .0 ≤ i .0
+pub accepts-this : (p : ℕ) (x : Variables) (y : Pending) (v : ℕ) (i : GroupIndex) → y ≡ Proposal v i → x .next .0 ≤ i .0
     → acceptedFrom p x y ≡ record { process = p; view = v; index = i .0 } ∷ []
 unfolding acceptedFrom pick
 accepts-this p x y v i e free = rw (e, le-ltb (i .0) (x .next .0) free)
 
-accepts-none : (p : ℕ) (x : Variables) (y : Pending) (v : ℕ) (i : GroupIndex) → y ≡ Proposal v i → i .0 < x .next .0 → acceptedFrom p x y ≡ []
+pub accepts-none : (p : ℕ) (x : Variables) (y : Pending) (v : ℕ) (i : GroupIndex) → y ≡ Proposal v i → i .0 < x .next .0 → acceptedFrom p x y ≡ []
 unfolding acceptedFrom pick
 accepts-none p x y v i e late = rw (e, lt-ltb (i .0) (x .next .0) late)
 
@@ -93,7 +93,7 @@ module _ {s : System} {acc : List Acceptance} (r : Reached s acc) (p v i : ℕ) 
 -- ---- what each transition may rely on
 module _ {s : System} {acc : List Acceptance} (r : Reached s acc) where
   -- the message taken was honest
-  honest-first : {q p : ℕ} {m : Message} {left : ℕ → ℕ → List Message} → Taken s q p m left → Honest acc (variablesAt s) q p m
+  pub honest-first : {q p : ℕ} {m : Message} {left : ℕ → ℕ → List Message} → Taken s q p m left → Honest acc (variablesAt s) q p m
   honest-first {q} {p} k = subst (Each (Honest acc (variablesAt s) q p)) (k .first) (r .messages q p) .0
 
   -- whoever is marked once an Acc of q is taken has accepted v* at PropOut
@@ -190,7 +190,7 @@ unfolding pick
 either-way true = refl
 either-way false = refl
 
-accepted-then : (s : System) (o : Action) (k : ℕ) → acceptedAs s o k ≡ pick (eqb k 0) (acceptances s o) []
+pub accepted-then : (s : System) (o : Action) (k : ℕ) → acceptedAs s o k ≡ pick (eqb k 0) (acceptances s o) []
 unfolding acceptedAs
 accepted-then s (Report p v) k = either-way _
 accepted-then s (Receive q p) k = either-way _

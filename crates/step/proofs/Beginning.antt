@@ -58,9 +58,13 @@ module _ (n : ℕ) where
   unfolding processAt freshSystem
   each-fresh P h e p = one-or-none P 8 p (freshProcess n) noProcess h e
 
+  pub fresh-process : (p : ℕ) → 1 ≤ p → p ≤ 8 → processAt (freshSystem n) p ≡ freshProcess n
+  unfolding processAt freshSystem
+  fresh-process p low high = at-equal 8 p (freshProcess n) noProcess low high
+
   pub fresh-variables : (p : ℕ) → 1 ≤ p → p ≤ 8 → variablesAt (freshSystem n) p ≡ freshVariables n
-  unfolding processAt freshSystem freshProcess
-  fresh-variables p low high = ap (λ (x : Process). x .variables) (at-equal 8 p (freshProcess n) noProcess low high)
+  unfolding freshProcess
+  fresh-variables p low high = ap (λ (x : Process). x .variables) (fresh-process p low high)
 
   pub nothing-recorded : (p q : ℕ) → pendingAt (processAt (freshSystem n) p) q ≡ Nothing
   unfolding pendingAt freshProcess noProcess

@@ -181,6 +181,44 @@ fn marks_from_fresh() {
     assert!(on > 1000 && off > 1000 && early > 1000, "{on} {off} {early}");
 }
 
+/// S-6: at rest, the live units that all have one and the same local view,
+/// which names just them, have it as their last entry, at one position.
+#[test]
+fn quiet_is_agreed() {
+    let mut dice = Dice { state: 0x9d1e7, reports: 30 };
+    let (mut views, mut stopped) = (0, 0);
+    for run in 0..800 {
+        let n = 1 + (run % 8) as u8;
+        let mut now = system(n);
+        for _ in 0..40 {
+            let action = dice.likely_step(&now);
+            let whole = Step::from(action);
+            let _ = if dice.roll(30) == 0 { action.cut(dice.roll(3)) } else { whole }.run(&mut now);
+            if dice.roll(8) == 0 && settle(&mut now).ending == Ending::Rest {
+                for byte in 1..=now.everyone().0 {
+                    let view = View(byte);
+                    if view
+                        .members()
+                        .all(|p| !now.process(p).crashed && now.process(p).view == view)
+                    {
+                        let last = |p: ProcessId| {
+                            now.process(p).entries().filter(|(_, v)| !v.is_empty()).last()
+                        };
+                        let least = view.min().map(|p| now.process(p).propout);
+                        for p in view.members() {
+                            assert_eq!(last(p), least.map(|i| (i, view)), "{p:?}");
+                        }
+                        views += 1;
+                        stopped +=
+                            u32::from(now.everyone().members().any(|p| now.process(p).crashed));
+                    }
+                }
+            }
+        }
+    }
+    assert!(views > 1000 && stopped > 50, "{views} {stopped}");
+}
+
 /// Some bytes of the image, changed.
 fn damage(dice: &mut Dice, image: &mut Image) {
     for _ in 0..dice.roll(6) {

@@ -1,0 +1,4 @@
+-- When it is quiet, it is agreed.
+pub mod Quiet
+pub mod AfterSettling
+pub mod Examples
