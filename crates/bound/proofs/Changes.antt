@@ -18,9 +18,11 @@ use Rattle.system.specs.declared.System.{System}
 use Rattle.system.specs.Process.{pendingAt, pendingSlot}
 use Rattle.system.specs.System.{processAt, variablesAt}
 use Rattle.plan.specs.declared.Change.{Change}
-use Rattle.step.proofs.Cases.{waitingAt, afterwards, stays, grows, empties, Effect}
+use Rattle.step.specs.Counts.{one}
+use Rattle.step.proofs.Cases.{waitingAt, afterwards, Effect}
 use Rattle.step.proofs.Effects.{each-process, each-process-but, each-pending}
-use Rattle.bound.proofs.Dues.{bit, is, is-self, by-is, is-other, count, count-end, outward, inward, selfward, recorded, recorded-small, held, mark, ahead}
+use Rattle.step.proofs.Weights.{is, is-self, by-is, is-other, mark, count, weighs}
+use Rattle.bound.proofs.Dues.{outward, inward, selfward, recorded, recorded-small, held, ahead}
 
 -- ---- the channels between a and b: what is taken off each, and what is put on, by weight
 pub record Flow (s t : System) (off on : (Message → ℕ) → ℕ → ℕ → ℕ) (a b : ℕ) : Type 0 where
@@ -36,23 +38,13 @@ emptied x c stops q from none low high =
     rw (from, none) (ap (λ (y : PendingSlot). y .pending) (at-put-same (x .pending) q (pendingSlot Nothing) (pendingSlot Nothing) low high))
 
 module _ {s t : System} {left : ℕ → ℕ → List Message} {p : ℕ} {c : Change} {stops : Bool} {to : ℕ} {m : Message} (f : Effect s t left p c stops to m) where
-  -- a channel weighs what was left on it, or that and the message
-  weighs : (w : Message → ℕ) (a b k : ℕ) → (a ≡ p → has to b ≡ true → w m ≤ k) → count w (waitingAt t a b) ≤ count w (left a b) + k
-  unfolding count
-  weighs w a b k new =
-      elim (f .channels a b) [
-        | stays e ↦ rw e (omega arith)
-        | grows e told live g ↦ rw g (omega (arith, count-end w (left a b) m, new e (f .addressed b told)))
-        | empties e stop g ↦ rw g (omega arith)
-      ]
-
   module _ (off : (Message → ℕ) → ℕ → ℕ → ℕ) (taken : (w : Message → ℕ) (a b : ℕ) → count w (left a b) + off w a b ≡ count w (waitingAt s a b)) where
     flow : (on : (Message → ℕ) → ℕ → ℕ → ℕ) → ((w : Message → ℕ) (a b : ℕ) → a ≡ p → has to b ≡ true → w m ≤ on w a b) → (a b : ℕ)
         → Flow s t off on a b
-    flow on new a b = record { out = one outward a b; back = one inward b a; self = one selfward a a }
+    flow on new a b = record { out = on-channel outward a b; back = on-channel inward b a; self = on-channel selfward a a }
       where
-        one : (w : Message → ℕ) (i j : ℕ) → count w (waitingAt t i j) + off w i j ≤ count w (waitingAt s i j) + on w i j
-        one w i j = omega (arith, weighs w i j (on w i j) (new w i j), taken w i j)
+        on-channel : (w : Message → ℕ) (i j : ℕ) → count w (waitingAt t i j) + off w i j ≤ count w (waitingAt s i j) + on w i j
+        on-channel w i j = omega (arith, weighs f w i j (on w i j) (new w i j), taken w i j)
 
     -- the message goes to a set of processes
     pub flow-sent : (a b : ℕ) → Flow s t off (λ w i j. is i p * w m) a b
@@ -111,13 +103,13 @@ module _ {s t : System} {left : ℕ → ℕ → List Message} {p : ℕ} {c : Cha
       cleared = rw (f .actor) (emptied (processAt s p) c stops q from none low high)
 
   -- ---- marks: x is used up, and z pays
-  pub marks-paid : (x z : ℕ → ℕ) → bit (has (c .variables .acks) p) + x p ≤ mark s p + z p → ((k : ℕ) → (k ≡ p → ⊥) → x k ≤ z k) → (a : ℕ)
+  pub marks-paid : (x z : ℕ → ℕ) → one (has (c .variables .acks) p) + x p ≤ mark s p + z p → ((k : ℕ) → (k ≡ p → ⊥) → x k ≤ z k) → (a : ℕ)
       → mark t a + x a ≤ mark s a + z a
   unfolding mark afterwards
   marks-paid x z own other =
-      each-process-but f (λ k y. bit (has (y .variables .acks) k) + x k ≤ mark s k + z k) own (λ k h. omega (arith, other k h))
+      each-process-but f (λ k y. one (has (y .variables .acks) k) + x k ≤ mark s k + z k) own (λ k h. omega (arith, other k h))
 
-  pub marks-fewer : bit (has (c .variables .acks) p) ≤ mark s p → (a : ℕ) → mark t a ≤ mark s a
+  pub marks-fewer : one (has (c .variables .acks) p) ≤ mark s p → (a : ℕ) → mark t a ≤ mark s a
   marks-fewer own a = omega (arith, marks-paid (λ k. 0) (λ k. 0) (omega arith) (λ k h. omega arith) a)
 
   -- ---- PropOut

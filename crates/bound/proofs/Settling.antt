@@ -10,20 +10,24 @@ use lib.Dec.{eqb, ltb}
 use lib.ListN.{length, length-append}
 use Rattle.view.specs.Logic.{pick}
 use Rattle.view.proofs.Laws.{by-pick, by-test, each-keeps, and-left, and-right, and-intro, true-is-not-false}
+use Rattle.tallies.specs.declared.Tally.{Tally}
+use Rattle.tallies.specs.Tally.{noTally, plus, capped}
+use Rattle.tallies.proofs.Laws.{plus-none, none-plus, plus-plus, kept-on-the-way, kept-twice, none-kept}
 use Rattle.system.specs.declared.System.{System}
 use Rattle.system.specs.Fresh.{freshOf}
 use Rattle.sound.specs.Sound.{soundSystem}
 use Rattle.plan.specs.declared.Action.{Action}
 use Rattle.plan.specs.Cut.{whole}
 use Rattle.step.specs.Step.{stepped, Event, does, happened, ran}
+use Rattle.step.specs.Counts.{tallyIf, stepTally, eventTally, eventsTally}
 use Rattle.step.specs.Rest.{atRest}
-use Rattle.step.proofs.Outcomes.{size-kept, ran-append}
+use Rattle.step.proofs.Outcomes.{size-kept, ran-append, tally-append}
 use Rattle.settle.specs.declared.Half.{Half}
 use Rattle.settle.specs.declared.Half.the-variants.{Takes, Answers}
 use Rattle.settle.specs.declared.Ending.{Ending}
 use Rattle.settle.specs.declared.Ending.the-variants.{Rest, Held, Budget}
 use Rattle.settle.specs.declared.Settled.{Settled}
-use Rattle.settle.specs.Settle.{Progress, passing, tried, moveOf, triedWith, triedAt, halfDone, roundDone, unlessIdle, roundsDone, noneDone, nothingToDo, endingOf, endedWith, settled}
+use Rattle.settle.specs.Settle.{Progress, passing, tried, moveOf, triedWith, triedAt, halfDone, roundDone, unlessIdle, roundsDone, noneDone, nothingToDo, endingOf, endedWith, outset, settledFrom, settled, settledTally}
 use Rattle.settle.proofs.Idle.{looks-round, rounds-end}
 use Rattle.bound.specs.Bound.{takeOrAnswer, takeOrAnswerDone, allDone, Further}
 use Rattle.bound.specs.Settling.{Moves, SettlesBy, IsMoves, Ends, NeverBudget}
@@ -45,10 +49,21 @@ record Leads (x y : Progress) : Type 0 where
   system : ran (x .system) events ≡ y .system
   count : x .steps + length events ≡ y .steps
   size : y .system .n ≡ x .system .n
+  tally : capped (y .tally) ≡ capped (plus (x .tally) (eventsTally (x .system) events))
+  keeps : capped (x .tally) ≡ x .tally → capped (y .tally) ≡ y .tally
 
 nowhere : (x : Progress) → Leads x x
-unfolding allDone ran
-nowhere x = record { events = []; all-done = refl; system = refl; count = omega arith; size = refl }
+unfolding allDone ran eventsTally
+nowhere x =
+    record {
+      events = [];
+      all-done = refl;
+      system = refl;
+      count = omega arith;
+      size = refl;
+      tally = ap capped (sym (plus-none (x .tally)));
+      keeps = λ e. e;
+    }
 
 onward : (x y z : Progress) → Leads x y → Leads y z → Leads x z
 onward x y z a b =
@@ -59,7 +74,25 @@ onward x y z a b =
       system = ran-append (x .system) (a .events) (b .events) ∙ ap (λ (s : System). ran s (b .events)) (a .system) ∙ b .system;
       count = omega (arith, length-append (a .events) (b .events), a .count, b .count);
       size = b .size ∙ a .size;
+      tally = counted;
+      keeps = λ e. b .keeps (a .keeps e);
     }
+  where
+    first : Tally
+    first = eventsTally (x .system) (a .events)
+
+    second : eventsTally (ran (x .system) (a .events)) (b .events) ≡ eventsTally (y .system) (b .events)
+    second = ap (λ (s : System). eventsTally s (b .events)) (a .system)
+
+    counted : capped (z .tally) ≡ capped (plus (x .tally) (eventsTally (x .system) (a .events ++ b .events)))
+    counted =
+        b .tally
+        ∙ sym (kept-on-the-way (y .tally) _)
+        ∙ ap (λ (t : Tally). capped (plus t (eventsTally (y .system) (b .events)))) (a .tally)
+        ∙ kept-on-the-way (plus (x .tally) first) _
+        ∙ ap capped (plus-plus (x .tally) first _)
+        ∙ ap (λ (t : Tally). capped (plus (x .tally) (plus first t))) (sym second)
+        ∙ ap (λ (t : Tally). capped (plus (x .tally) t)) (sym (tally-append (x .system) (a .events) (b .events)))
 
 is-move : (h : Half) (p q : ℕ) → takeOrAnswer (moveOf h p q) ≡ 1
 unfolding takeOrAnswer moveOf
@@ -67,7 +100,7 @@ is-move Takes p q = refl
 is-move Answers p q = refl
 
 tried-leads : (budget : ℕ) (h : Half) (p q : ℕ) (x : Progress) → Leads x (triedWith budget h p q x)
-unfolding triedWith tried passing allDone ran happened takeOrAnswerDone pick
+unfolding triedWith tried passing allDone ran happened takeOrAnswerDone eventsTally eventTally tallyIf pick
 tried-leads budget h p q x =
     let o = moveOf h p q in
     let a = stepped (x .system) (whole o) in
@@ -81,6 +114,11 @@ tried-leads budget h p q x =
       system = refl;
       count = omega arith;
       size = size-kept (x .system) (whole o);
+      tally =
+          kept-twice (plus (x .tally) (stepTally (x .system) (whole o)))
+          ∙ ap (λ (t : Tally). capped (plus (x .tally) t))
+          (sym (plus-none _ ∙ ap (λ (test : Bool). pick test (stepTally (x .system) (whole o)) noTally) e));
+      keeps = λ k. kept-twice (plus (x .tally) (stepTally (x .system) (whole o)));
     })
     (λ e. nowhere x))
     (λ e. nowhere x)
@@ -108,25 +146,34 @@ rounds-lead (suc k) budget n x =
     by-pick (Leads x) (eqb (y .steps) (x .steps)) _ _ (λ e. one) (λ e. onward x y _ one (rounds-lead k budget n y))
 
 -- ---- the whole run
-abbrev starting : System → Progress
-starting s = record { system = s; steps = 0 }
-
--- where the rounds end
-abbrev finish : ℕ → System → Progress
-finish budget s = roundsDone (suc budget) budget (s .n) (starting s)
-
-sound-settled : (budget : ℕ) (s : System) → soundSystem s ≡ true → settled budget s ≡ endedWith budget (finish budget s)
+sound-settled : (budget : ℕ) (s : System) → soundSystem s ≡ true → settled budget s ≡ endedWith budget (settledFrom budget s)
 unfolding settled pick
 sound-settled budget s e = rw e
 
 pub settles-by : (budget : ℕ) (s : System) → IsMoves budget s
-unfolding settled endedWith allDone ran
-settles-by budget s =
-    by-pick (SettlesBy s) (soundSystem s) _ _
-    (λ e.
-    let way = rounds-lead (suc budget) budget (s .n) (starting s) in
-    record { events = way .events; moves = record { all-done = way .all-done; count = omega (arith, way .count); system = way .system } })
-    (λ e. record { events = []; moves = record { all-done = refl; count = refl; system = refl } })
+unfolding settled settledTally endedWith allDone ran eventsTally pick
+settles-by budget s = by-test (soundSystem s) (λ e. subst By (sym e) settling) (λ e. subst By (sym e) refusing)
+  where
+    end : Progress
+    end = settledFrom budget s
+
+    By : Bool → Type 0
+    By sound =
+        SettlesBy s (pick sound (endedWith budget end) (record { refusal = 1; steps = 0; ending = Held; system = s })) (pick sound (end .tally) noTally)
+
+    way : Leads (outset s) end
+    way = rounds-lead (suc budget) budget (s .n) (outset s)
+
+    settling : By true
+    settling =
+        record {
+          events = way .events;
+          moves = record { all-done = way .all-done; count = omega (arith, way .count); system = way .system };
+          tally = sym (way .keeps none-kept) ∙ way .tally ∙ ap capped (none-plus _);
+        }
+
+    refusing : By false
+    refusing = record { events = []; moves = record { all-done = refl; count = refl; system = refl }; tally = sym none-kept }
 
 -- ---- the ending
 -- below the budget, or with nothing to do, it is not budget
@@ -152,13 +199,13 @@ idle-none budget n y size below same =
 pub ends : (budget : ℕ) (s : System) → Ends budget s
 unfolding endedWith endingOf
 ends budget s sound not-said =
-    let y = finish budget s in
+    let y = settledFrom budget s in
     let is = sound-settled budget s sound in
     subst (λ (o : Settled). nothingToDo (o .system) ≡ true) (sym is)
     (by-test (ltb (y .steps) budget)
     (λ below.
-    idle-none budget (s .n) y (rounds-lead (suc budget) budget (s .n) (starting s) .size) (ltb-true (y .steps) budget below)
-    (rounds-end (suc budget) budget (s .n) (starting s) (omega arith) (omega arith)))
+    idle-none budget (s .n) y (rounds-lead (suc budget) budget (s .n) (outset s) .size) (ltb-true (y .steps) budget below)
+    (rounds-end (suc budget) budget (s .n) (outset s) (omega arith) (omega arith)))
     (λ over.
     by-test (nothingToDo (y .system)) (λ none. none) (λ more. absurd (not-said (ap (λ (o : Settled). o .ending) is ∙ is-budget budget y over more)))))
 
@@ -173,10 +220,10 @@ more-done y more =
     (λ e. omega (arith, up, eqb-false (z .steps) (y .steps) e))
 
 -- a list that uses the budget up, and a further one, are more than the bound
-no-budget : (n : ℕ) (es : List Event) (y : Progress) → Leads (starting (ran (freshOf n .system) es)) y → 7936 ≤ y .steps → nothingToDo (y .system) ≡ false → ⊥
+no-budget : (n : ℕ) (es : List Event) (y : Progress) → Leads (outset (ran (freshOf n .system) es)) y → 7936 ≤ y .steps → nothingToDo (y .system) ≡ false → ⊥
 no-budget n es y way full more =
     let z = roundDone (suc (y .steps)) (y .system .n) y in
-    let all = onward (starting (ran (freshOf n .system) es)) y z way (round-leads (suc (y .steps)) (y .system .n) y) in
+    let all = onward (outset (ran (freshOf n .system) es)) y z way (round-leads (suc (y .steps)) (y .system .n) y) in
     omega (arith, all .count, more-done y more, full, further-done n es (all .events) (all .all-done) .budget)
 
 or-false-left : (a b : Bool) → (a || b) ≡ false → a ≡ false
@@ -195,13 +242,13 @@ pub never-budget : (n : ℕ) (es : List Event) → NeverBudget n es
 unfolding endedWith endingOf
 never-budget n es said =
     let s = ran (freshOf n .system) es in
-    let y = finish 7936 s in
+    let y = settledFrom 7936 s in
     by-test (soundSystem s)
     (λ sound.
     let ending = sym (ap (λ (o : Settled). o .ending) (sound-settled 7936 s sound)) ∙ said in
     by-test (ltb (y .steps) 7936 || nothingToDo (y .system))
     (λ e. not-budget 7936 y e ending)
     (λ e.
-    no-budget n es y (rounds-lead 7937 7936 (s .n) (starting s)) (ltb-false (y .steps) 7936 (or-false-left (ltb (y .steps) 7936) (nothingToDo (y .system)) e))
+    no-budget n es y (rounds-lead 7937 7936 (s .n) (outset s)) (ltb-false (y .steps) 7936 (or-false-left (ltb (y .steps) 7936) (nothingToDo (y .system)) e))
     (or-false-right (ltb (y .steps) 7936) (nothingToDo (y .system)) e)))
     (λ unsound. unsound-held s unsound said)

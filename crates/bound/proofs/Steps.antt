@@ -1,16 +1,13 @@
 -- Each transition: nothing more is due between any two processes, and a take or an answer pays one of what is due between its two.
 use Prim.Native.Nat.{ℕ, _+_, _*_, _≤_, _<_}
 use mathlib.Core.Path.{_≡_, refl}
-use mathlib.Core.Bool.{Bool, true}
+use mathlib.Core.Bool.{Bool}
 use mathlib.Core.List.{List}
-use mathlib.Core.Logic.{⊎-elim}
 use native.Mathlib.Omega.{arith}
 use Rattle.view.specs.declared.ProcessId.{ProcessId}
 use Rattle.view.specs.declared.GroupIndex.{GroupIndex}
-use Rattle.view.specs.Logic.{pick}
 use Rattle.view.specs.View.{has, with}
-use Rattle.view.proofs.Laws.{by-test}
-use Rattle.view.proofs.Sets.{has-with, subset-has}
+use Rattle.view.proofs.Sets.{subset-has}
 use Rattle.channel.specs.declared.Message.{Message}
 use Rattle.channel.specs.declared.Message.the-variants.{Propose}
 use Rattle.system.specs.declared.Pending.the-variants.{Nothing, Proposal}
@@ -23,9 +20,10 @@ use Rattle.plan.specs.declared.Action.{Action}
 use Rattle.plan.specs.declared.Action.the-variants.{Report, Receive, Respond, Crash}
 use Rattle.plan.specs.Plan.{recording}
 use Rattle.step.proofs.Frames.{Shape}
-use Rattle.step.proofs.Cases.{waitingAt, Known, Effect, Marking, present, stale, Transition, proposes, follows, records, reproposes, ignores, marks, commits, enters, accepts, declines, crashes}
+use Rattle.step.proofs.Cases.{waitingAt, Known, Effect, Transition, proposes, follows, records, reproposes, ignores, marks, commits, enters, accepts, declines, crashes}
 use Rattle.bound.specs.Bound.{takeOrAnswer}
-use Rattle.bound.proofs.Dues.{bit, bit-true, unmarked, is, is-self, is-other, count, outward, inward, selfward, mark, stake, due, taken-off}
+use Rattle.step.proofs.Weights.{one-true, unmarked, marked, is, is-self, is-other, mark, count, taken-off}
+use Rattle.bound.proofs.Dues.{outward, inward, selfward, stake, due}
 use Rattle.bound.proofs.Changes.{flow-sent, flow-answered, flow-quiet, held-steady, held-more, held-cleared, marks-paid, marks-fewer, ahead-steady, ahead-falls}
 
 -- d is paid between two of the processes, and nothing more is due anywhere
@@ -35,16 +33,6 @@ pub record Paid (s t : System) (d : ℕ) : Type 0 where
   pub from : Known s proposer
   pub to : Known s other
   pub pays : (a b : ℕ) → due t a b + d * (is a proposer * is b other) ≤ due s a b
-
--- p is marked once an Acc of q is taken: it was, or it is q
-marked : (x : Variables) (q i acks p : ℕ) → 1 ≤ q → q ≤ 8 → Marking x q i acks → bit (has acks p) ≤ bit (has (x .acks) p) + is p q
-unfolding bit pick
-marked x q i acks p low high (present e a) =
-    by-test (has acks p)
-    (λ yes.
-    ⊎-elim (λ (old : has (x .acks) p ≡ true). rw (yes, old) (omega arith)) (λ (same : p ≡ q). rw (yes, same, is-self q) (omega arith)) (has-with (x .acks) q p low high (rw a at yes)))
-    (λ no. rw no (omega arith))
-marked x q i acks p low high (stale e a) = rw a (omega arith)
 
 -- ---- what the transitions share
 -- nothing is taken off
@@ -153,7 +141,7 @@ module _ {s t : System} (shape : Shape s) where
         held-steady (k .effect) refl a b,
         held-steady (k .effect) refl a a,
         marks-paid (k .effect) (λ j. is j (p .0)) (λ j. is j (q .0) * is j (p .0))
-            (rw (is-self (p .0)) (omega (arith, unmarked (p .0), own, bit-true (has (k .acks) (p .0)) all)))
+            (rw (is-self (p .0)) (omega (arith, unmarked (p .0), own, one-true (has (k .acks) (p .0)) all)))
             (λ j h. rw (is-other j (p .0) h) (omega arith))
             a,
         ahead-steady (k .effect) refl a,

@@ -19,6 +19,7 @@ use Rattle.system.specs.Fresh.{freshVariables, freshSystem, freshOf}
 use Rattle.sound.specs.Sound.{soundSystem}
 use Rattle.plan.specs.declared.Step.{Step}
 use Rattle.step.specs.Step.{stepped, Event, does, happened, ran}
+use Rattle.step.specs.Counts.{one}
 use Rattle.step.proofs.Soundness.{Valid, sound-facts}
 use Rattle.step.proofs.Inversion.{by-outcome}
 use Rattle.step.proofs.SoundSteps.{step-sound}
@@ -26,7 +27,8 @@ use Rattle.step.proofs.Outcomes.{size-kept, unsound-is-1}
 use Rattle.step.proofs.Beginning.{fresh-variables, nothing-recorded, nothing-waits, fresh-valid}
 use Rattle.bound.specs.Bound.{takeOrAnswerDone, takesAndAnswers, allDone, Bound, Further}
 use Rattle.bound.proofs.Sums.{pairs, pairs-fall-at, pairs-at-most}
-use Rattle.bound.proofs.Dues.{bit, unmarked, is-self, count, recorded, held, mark, ahead, stake, due}
+use Rattle.step.proofs.Weights.{unmarked, is-self, mark, count}
+use Rattle.bound.proofs.Dues.{recorded, held, ahead, stake, due}
 use Rattle.bound.proofs.Steps.{Paid, transition-pays}
 
 -- ---- one step, and a list
@@ -36,13 +38,13 @@ total n s = pairs n (due s)
 
 total-paid : {s t : System} {d : ℕ} → Paid s t d → d + total (s .n) t ≤ total (s .n) s
 total-paid {s} {t} {d} k =
-    let one : due t (k .proposer) (k .other) + d ≤ due s (k .proposer) (k .other) =
+    let here : due t (k .proposer) (k .other) + d ≤ due s (k .proposer) (k .other) =
     omega (arith, rw (is-self (k .proposer), is-self (k .other)) at (k .pays (k .proposer) (k .other))) in
     omega (
       arith,
       pairs-fall-at (s .n) (due t) (due s) (λ a b. omega (arith, k .pays a b)) (k .proposer) (k .other) d (k .from .low) (k .from .high) (k .to .low)
           (k .to .high)
-          one,
+          here,
     )
 
 step-paid : (s : System) → Valid s → (o : Step) → takeOrAnswerDone (stepped s o) (does o) + total (s .n) (stepped s o .system) ≤ total (s .n) s
@@ -67,7 +69,7 @@ run-paid n s e valid (does o ∷ os) =
 module _ (n a : ℕ) (low : 1 ≤ a) (high : a ≤ 8) where
   fresh-mark : mark (freshSystem n) a ≡ 0
   unfolding mark freshVariables
-  fresh-mark = ap (λ (x : Variables). bit (has (x .acks) a)) (fresh-variables n a low high) ∙ unmarked a
+  fresh-mark = ap (λ (x : Variables). one (has (x .acks) a)) (fresh-variables n a low high) ∙ unmarked a
 
   fresh-ahead : ahead (freshSystem n) a ≡ 31
   unfolding ahead freshVariables
@@ -129,9 +131,9 @@ all-counted : (s : System) (os : List Event) → allDone s os ≡ true → takes
 unfolding takesAndAnswers allDone
 all-counted s [] e = refl
 all-counted s (x ∷ os) e =
-    let one = takeOrAnswerDone (happened s x) x in
+    let first = takeOrAnswerDone (happened s x) x in
     let rest = allDone (happened s x .system) os in
-    omega (arith, eqb-true one 1 (and-left (eqb one 1) rest e), all-counted (happened s x .system) os (and-right (eqb one 1) rest e))
+    omega (arith, eqb-true first 1 (and-left (eqb first 1) rest e), all-counted (happened s x .system) os (and-right (eqb first 1) rest e))
 
 -- a further list of takes and answers, all done: its length
 pub further-done : (n : ℕ) (os more : List Event) → allDone (ran (freshOf n .system) os) more ≡ true → Further n os (length more)

@@ -5,13 +5,16 @@ use mathlib.Core.Path.{_≡_}
 use mathlib.Core.Bool.{true}
 use mathlib.Core.List.{List}
 use lib.ListN.{length}
+use Rattle.tallies.specs.declared.Tally.{Tally}
+use Rattle.tallies.specs.Tally.{capped}
 use Rattle.system.specs.declared.System.{System}
 use Rattle.system.specs.Fresh.{freshOf}
 use Rattle.sound.specs.Sound.{soundSystem}
 use Rattle.step.specs.Step.{Event, ran}
+use Rattle.step.specs.Counts.{eventsTally}
 use Rattle.settle.specs.declared.Ending.the-variants.{Budget}
 use Rattle.settle.specs.declared.Settled.{Settled}
-use Rattle.settle.specs.Settle.{nothingToDo, settled}
+use Rattle.settle.specs.Settle.{nothingToDo, settled, settledTally}
 use Rattle.bound.specs.Bound.{allDone}
 
 -- k takes and answers, all of them done, lead from s to t
@@ -20,13 +23,14 @@ pub record Moves (s : System) (es : List Event) (k : ℕ) (t : System) : Type 0 
   pub count : length es ≡ k
   pub system : ran s es ≡ t
 
--- a settling run is itself a list of takes and answers: the steps that it counts
-pub record SettlesBy (s : System) (o : Settled) : Type 0 where
+-- a settling run is itself a list of takes and answers: the steps that it counts, and its tally is theirs (S-7)
+pub record SettlesBy (s : System) (o : Settled) (t : Tally) : Type 0 where
   pub events : List Event
   pub moves : Moves s events (o .steps) (o .system)
+  pub tally : t ≡ capped (eventsTally s events)
 
 abbrev pub IsMoves : ℕ → System → Type 0
-IsMoves budget s = SettlesBy s (settled budget s)
+IsMoves budget s = SettlesBy s (settled budget s) (settledTally budget s)
 
 -- "until a whole round does nothing": unless the run says budget, no take and no answer would then be done
 abbrev pub Ends : ℕ → System → Type 0

@@ -3,14 +3,15 @@ use Prim.Native.Nat.{ℕ}
 use mathlib.Core.Path.{_≡_, _∙_, ap}
 use mathlib.Core.List.{List}
 use lib.ListN.{set}
+use Rattle.image.specs.Image.{systemIn}
 use Rattle.settle.specs.declared.Settling.{Settling}
 use Rattle.settle.specs.declared.Settled.{Settled}
-use Rattle.settle.specs.Settle.{Settles}
+use Rattle.settle.specs.Settle.{settled, Settles}
 use Rattle.capi.specs.Calls.{endingNumber, Tells}
 
-pub run-told : (o : Settled) (b : List ℕ) (r : Settling) (c told : List ℕ) (k : ℕ) → Settles o b r c → k ≡ endingNumber (r .ending)
-    → Tells o b (r .refusal) c told (set (set told 0 (r .steps)) 1 k)
-run-told o b r c told k run is =
+pub run-told : (budget : ℕ) (b : List ℕ) (r : Settling) (c told : List ℕ) (k : ℕ) → Settles budget b r c → k ≡ endingNumber (r .ending)
+    → Tells (settled budget (systemIn b)) b (r .refusal) c told (set (set told 0 (r .steps)) 1 k)
+run-told budget b r c told k run is =
     let same = run .outcome in
     record {
       number = ap (λ (x : Settled). x .refusal) same;

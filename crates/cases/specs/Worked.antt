@@ -3,6 +3,7 @@ use Prim.Native.Nat.{ℕ}
 use Prim.Native.String.{String}
 use mathlib.Core.List.{List, [], _∷_, _++_, map}
 use Rattle.view.specs.Logic.{at}
+use Rattle.tallies.specs.Tally.{noTally}
 use Rattle.channel.specs.declared.Message.{Message}
 use Rattle.channel.specs.Channel.{waiting}
 use Rattle.system.specs.declared.System.{System}
@@ -64,7 +65,7 @@ pub record Result : Type 0 where
 -- what is printed. The number that a system was given out with is printed as that of line 1
 unfoldable pub printedBy : Start → List ℕ → List ℕ
 printedBy itsOwn t = output t
-printedBy (handed o) t = printedThen (answered 1 o) (λ s. printedFrom 2 s (linesOf t))
+printedBy (handed o) t = printedThen (answered 1 noTally o) (λ s. printedFrom 2 s (linesOf t))
 
 -- the system that the lines run on
 unfoldable pub openedWith : Opening → System

@@ -50,7 +50,7 @@ turns-left v i h l some =
       | no q ↦ omega (arith, lt-of-not-le q)
     ]
 
-not-named : (v i k : ℕ) → v < 256 → i ≤ 8 → halved i v ≡ 0 → i < k → has v k ≡ false
+pub not-named : (v i k : ℕ) → v < 256 → i ≤ 8 → halved i v ≡ 0 → i < k → has v k ≡ false
 unfolding spent
 not-named v i k h l none past =
     by-test (has v k)

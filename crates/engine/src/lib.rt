@@ -7,9 +7,16 @@ ghost use Rattle.channel.specs.Channel.{hasRoom};
 ghost use Rattle.system.specs.System.{variablesAt, channelAt, withTrust, trusting, sentIfNamed, broadcasted, roomFor};
 ghost use Rattle.sound.specs.Sound.{soundSystem};
 ghost use Rattle.step.specs.Step.{planOf, takenOff, departed, suspectedIfNamed, doubted, changedAt, crashedAt, crashedIf, effected, stepped};
+ghost use Rattle.step.specs.Counts.{planTally, stepTally};
+ghost use Rattle.tallies.specs.Tally.{noTally};
 ghost use Rattle.image.specs.Image.{systemIn};
 ghost use Rattle.engine.specs.Engine.{Gives, Attempts, cutOf, orderOf, orderAt, orderCount, obeyed, Performs};
+
+pub mod counts;
+
 use channel::Message;
+use counts::lost;
+use counts::plan_counts;
 use image::clear;
 use image::front_at;
 use image::length_at;
@@ -36,6 +43,7 @@ use system::refusal::CHANNEL_FULL;
 use system::refusal::CRASHED;
 use system::refusal::STRANGER;
 use system::refusal::UNSOUND;
+use tallies::Tally;
 use view::GroupIndex;
 use view::ProcessId;
 use view::and;
@@ -224,23 +232,41 @@ fn crash_if(image: &mut [u8], stops: bool, p: ProcessId)
     }
 }
 
-// The plan is carried out.
-fn carry_out(image: &mut [u8], c: Scope, a: Plan)
-    ensures { λ r. ⌜ systemIn (now (image .exit)) ≡ effected (takenOff (systemIn (now (image .entry))) c) (c .actor .0) a ⌝ }
+// The plan is carried out. The answer is what it counts.
+fn carry_out(image: &mut [u8], c: Scope, a: Plan) -> Tally
+    ensures { λ r. ⌜ (systemIn (now (image .exit)) ≡ effected (takenOff (systemIn (now (image .entry))) c) (c .actor .0) a) × (r ≡ planTally (takenOff (systemIn (now (image .entry))) c) c a) ⌝ }
 {
     let p = c.actor;
     let y = a.change;
     let m = a.message;
+    let x = variables_at(image, p);
+    let propout = x.propout;
     take_off(image, c);
     doubt(image, p, a.suspects);
     change(image, p, y);
     broadcast(image, p, a.addressees, m);
+    let tally = plan_counts(c, a, propout, lost(image, p, a));
     crash_if(image, a.stops, p);
+    tally
+}
+
+// What a step answers: its number, and what it counts.
+pub struct Tallied {
+    pub refusal: u8,
+    pub tally: Tally,
+}
+
+// A step that is refused counts nothing.
+fn uncounted(refusal: u8) -> Tallied
+    ensures { λ r. ⌜ (r .refusal ≡ refusal) × (r .tally ≡ noTally) ⌝ }
+{
+    let tally = tallies::none();
+    Tallied { refusal, tally }
 }
 
 // The step, on an image whose system is taken to be sound: internal to runs that know it to be so.
-pub fn attempt(image: &mut [u8], o: Step) -> u8
-    ensures { λ r. ⌜ Attempts o (now (image .entry)) r (now (image .exit)) ⌝ }
+pub fn attempt(image: &mut [u8], o: Step) -> Tallied
+    ensures { λ r. ⌜ (Attempts o (now (image .entry)) (r .refusal) (now (image .exit))) × (r .tally ≡ stepTally (systemIn (now (image .entry))) o) ⌝ }
 {
     let action = o.action;
     let cut = o.cut;
@@ -251,16 +277,16 @@ pub fn attempt(image: &mut [u8], o: Step) -> u8
         let a = cut_by(cut, full);
         if a.refusal == 0 {
             if room(image, c, a.addressees) {
-                carry_out(image, c, a);
-                0
+                let tally = carry_out(image, c, a);
+                Tallied { refusal: 0, tally }
             } else {
-                CHANNEL_FULL
+                uncounted(CHANNEL_FULL)
             }
         } else {
-            a.refusal
+            uncounted(a.refusal)
         }
     } else {
-        refusal
+        uncounted(refusal)
     }
 }
 
@@ -269,7 +295,8 @@ pub fn perform(image: &mut [u8], o: Step) -> u8
     ensures { λ r. ⌜ Gives (stepped (systemIn (now (image .entry))) o) (now (image .entry)) r (now (image .exit)) ⌝ }
 {
     if integrity::sound(image) {
-        attempt(image, o)
+        let a = attempt(image, o);
+        a.refusal
     } else {
         UNSOUND
     }
@@ -330,7 +357,14 @@ fn obey(image: &mut [u8], good: bool, order: Order) -> u8
 {
     match order {
         Order::Unknown => BAD_LINE,
-        Order::Do(o) => { if good { attempt(image, o) } else { UNSOUND } }
+        Order::Do(o) => {
+            if good {
+                let a = attempt(image, o);
+                a.refusal
+            } else {
+                UNSOUND
+            }
+        }
     }
 }
 

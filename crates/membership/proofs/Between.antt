@@ -26,7 +26,7 @@ module _ (s : System) (a b c : List ℕ) (t : System) (l : Lengths s) (long : le
       ∙ gives .outcome
       ∙ ap (λ (x : System). stepped x o) (encode-call s l a b long put)
 
-  pub settled-between : (budget : ℕ) (r : Settling) → Settles (settled budget (systemIn b)) b r c
+  pub settled-between : (budget : ℕ) (r : Settling) → Settles budget b r c
       → record { refusal = r .refusal; steps = r .steps; ending = r .ending; system = t } ≡ settled budget s
   settled-between budget r run =
       ap (λ (x : System). record { refusal = r .refusal; steps = r .steps; ending = r .ending; system = x }) (decode-call c t (f ∙ e ∙ long) got)

@@ -17,8 +17,8 @@ use Rattle.system.specs.System.{processAt}
 use Rattle.print.specs.Text.{bytes, textUpTo, digits, decimal, memberText, viewText}
 use Rattle.print.specs.Print.{numbers, threeNumbers, numberedLine, columnLine, entryText, entryTextAt, historyText, unitLine, unitOf, unitLines}
 
-record AtMost (m : ℕ) (l : List ℕ) : Type 0 where
-  bytes-are : length l ≤ m
+pub record AtMost (m : ℕ) (l : List ℕ) : Type 0 where
+  pub bytes-are : length l ≤ m
 
 none : {m : ℕ} → AtMost m []
 none = record { bytes-are = omega arith }
@@ -27,7 +27,7 @@ one : {m b : ℕ} → AtMost (suc m) (b ∷ [])
 one = record { bytes-are = omega arith }
 
 -- ---- two texts, one of two texts, and the texts of 1 to n
-both : {m n : ℕ} {a b : List ℕ} → AtMost m a → AtMost n b → AtMost (m + n) (a ++ b)
+pub both : {m n : ℕ} {a b : List ℕ} → AtMost m a → AtMost n b → AtMost (m + n) (a ++ b)
 both {m} {n} {a} {b} ha hb = record { bytes-are = omega (arith, length-append a b, ha .bytes-are, hb .bytes-are) }
 
 either : {m : ℕ} {a b : List ℕ} (t : Bool) → AtMost m a → AtMost m b → AtMost m (pick t a b)
@@ -52,7 +52,7 @@ few zero d k h = none
 few (suc n) zero k h = rw (lt-ltb k 10 h) one
 few (suc n) (suc d) k h = either (ltb k 10) one (rw (← add-one (suc d)) (both (few n d (k / 10) (omega (arith, pow-suc 10 (suc d)))) one))
 
-twenty-digits : (k : ℕ) → AtMost 20 (decimal k)
+pub twenty-digits : (k : ℕ) → AtMost 20 (decimal k)
 unfolding decimal
 twenty-digits k = all-digits 20 k
 

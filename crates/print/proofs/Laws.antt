@@ -1,6 +1,6 @@
 -- Laws of typing on a page, and of numbers and views as texts.
 use Prim.Native.Nat.{ℕ, zero, suc, _+_, _-_, _≤_, _<_, _/_, _%_}
-use mathlib.Core.Path.{_≡_, refl, _∙_, ap}
+use mathlib.Core.Path.{_≡_, refl, sym, _∙_, ap}
 use mathlib.Core.Bool.{Bool, true, false}
 use mathlib.Core.List.{List, [], _∷_, _++_}
 use native.Mathlib.Omega.{arith}
@@ -95,6 +95,17 @@ sets-typed b n (x ∷ t) h =
 pub fits-in : (b : List ℕ) (n : ℕ) (t : List ℕ) → n + length t ≤ length b
     → typed (page b n) t ≡ page (take n b ++ t ++ drop (n + length t) b) (n + length t)
 fits-in b n t h = sets-typed b n t h ∙ ap (λ (l : List ℕ). page l (n + length t)) (sets-eq t b n h)
+
+-- a page typed from its start on, with room for the text in a buffer of m bytes: the text is the buffer's first bytes, and the others stay
+pub printed-whole : (b c t : List ℕ) (m n : ℕ) → length b ≡ m → length t ≤ m → page c n ≡ typed (page b 0) t
+    → (n ≡ length t) × (c ≡ t ++ drop n b) × (n ≤ m)
+printed-whole b c t m n long room e =
+    let all : page c n ≡ page (take 0 b ++ t ++ drop (0 + length t) b) (0 + length t) = e ∙ fits-in b 0 t (omega arith) in
+    let count : n ≡ length t = ap (λ (p : Page). p .place) all ∙ zero-add (length t) in (
+      count,
+      ap (λ (p : Page). p .buffer) all ∙ ap (λ (k : ℕ). t ++ drop k b) (zero-add (length t) ∙ sym count),
+      omega arith,
+    )
 
 -- a page that was typed from its start on: as many bytes as the text has, and they are the text
 pub record Whole (t c : List ℕ) (n : ℕ) : Type 0 where

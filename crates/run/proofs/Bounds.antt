@@ -17,7 +17,7 @@ use Rattle.step.specs.Step.{stepped}
 use Rattle.step.proofs.Outcomes.{among, answers, number-listed}
 use Rattle.settle.specs.declared.Ending.{Ending}
 use Rattle.settle.specs.declared.Ending.the-variants.{Rest, Held, Budget}
-use Rattle.settle.specs.Settle.{settled}
+use Rattle.settle.specs.Settle.{settled, settledTally}
 use Rattle.settle.proofs.Within.{settled-steps, settled-number}
 use Rattle.print.specs.Text.{bytes}
 use Rattle.print.specs.Print.{threeNumbers, numberedLine, columnLine}
@@ -68,7 +68,7 @@ ending-room Rest = omega arith
 ending-room Held = omega arith
 ending-room Budget = omega arith
 
-settle-room : (k : ℕ) (s : System) → k < 100000 → length (settledAs k (settled 7936 s) .text) ≤ 20
+settle-room : (k : ℕ) (s : System) → k < 100000 → length (settledAs k (settledTally 7936 s) (settled 7936 s) .text) ≤ 20
 unfolding settledAs
 settle-room k s hk =
     let o = settled 7936 s in

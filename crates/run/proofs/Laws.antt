@@ -8,8 +8,11 @@ use borrow.Author.Tests.{lt-ltb, le-ltb, eq-eqb}
 use lib.Dec.{eqb}
 use lib.ListN.{length, take, drop}
 use Rattle.view.specs.Logic.{at, pick, isOneOf}
+use Rattle.tallies.specs.declared.Tally.{Tally}
+use Rattle.tallies.specs.Tally.{noTally, plus, capped}
 use Rattle.system.specs.declared.System.{System}
 use Rattle.system.specs.Fresh.{freshSystem}
+use Rattle.step.specs.Counts.{stillWaiting}
 use Rattle.image.specs.Image.{imageWidth, systemIn}
 use Rattle.print.specs.Text.{bytes}
 use Rattle.print.specs.Page.{Page, typed}
@@ -22,7 +25,7 @@ use Rattle.sheet.specs.Lines.{linesOf}
 use Rattle.sheet.specs.Parse.{meaningFirst, opened, parsed}
 use Rattle.sheet.proofs.Laws.{Cut}
 use Rattle.sheet.proofs.GoodLines.{fresh-size}
-use Rattle.run.specs.Output.{badLine, lineDone, printedThen, printedFrom, badFrom, startedBy, linesOutput, output}
+use Rattle.run.specs.Output.{badLine, lineDone, printedThen, printedFrom, badFrom, startedBy, linesOutput, output, talliedThen, talliedFrom, talliedBy, linesTally, sheetTally}
 
 -- total is the page in the end, p the page before the line and q the page after it
 then : (total p q : Page) (a b : List ℕ) → total ≡ typed p (a ++ b) → q ≡ typed p a → total ≡ typed q b
@@ -47,6 +50,28 @@ pub printed-end : (total p q : Page) (sheet : List ℕ) (at line : ℕ) (s : Sys
     → q ≡ total
 unfolding printedFrom
 printed-end total p q sheet at line s none whole here = here ∙ sym (whole ∙ ap (λ (ls : List (List ℕ)). typed p (printedFrom line s ls)) none)
+
+-- ---- what is counted: total in the end, a before the line, m for it and b after it
+pub tallied-again : (total a m b : Tally) (sheet : List ℕ) (at start end next line : ℕ) (s t : System) (x : Line) → Cut sheet at start end next
+    → x ≡ parsed (take (end - start) (drop start sheet))
+    → t ≡ lineDone line s x .system
+    → total ≡ talliedFrom line a s (linesOf (drop at sheet))
+    → m ≡ lineDone line s x .tally
+    → b ≡ capped (plus a m)
+    → total ≡ talliedFrom (line + 1) b t (linesOf (drop next sheet))
+unfolding talliedFrom talliedThen
+tallied-again total a m b sheet at start end next line s t x cut said after whole counts here =
+    rw (add-one, after, here, counts)
+    (whole ∙ ap (talliedFrom line a s) (cut .lines) ∙ ap (λ (y : Line). talliedThen a (lineDone line s y) (λ c u. talliedFrom (suc line) c u (linesOf (drop next sheet)))) (sym said))
+
+pub tallied-end : (total a m b : Tally) (sheet : List ℕ) (at line : ℕ) (s : System) → linesOf (drop at sheet) ≡ []
+    → total ≡ talliedFrom line a s (linesOf (drop at sheet))
+    → m ≡ stillWaiting s
+    → b ≡ capped (plus a m)
+    → b ≡ total
+unfolding talliedFrom
+tallied-end total a m b sheet at line s none whole counts here =
+    here ∙ ap (λ (t : Tally). capped (plus a t)) counts ∙ sym (whole ∙ ap (talliedFrom line a s) none)
 
 -- after a bad first line: its own column, and then 0
 pub bad-begins : (p q : Page) (column : ℕ) (ls : List (List ℕ)) → q ≡ typed p (columnLine 1 8 column) → typed p (startedBy (BadFirst column) ls) ≡ typed q (badFrom 2 ls)
@@ -87,6 +112,21 @@ pub output-begins : (sheet : List ℕ) (start end next : ℕ) (x : Opening) → 
     → output sheet ≡ startedBy x (linesOf (drop next sheet))
 unfolding output pick linesOutput
 output-begins sheet start end next x h cut said = rw (le-ltb 60000 (length sheet) h, said) (ap linesOutput (cut .lines))
+
+-- and what it counts
+pub tally-long : (sheet : List ℕ) → 60000 < length sheet → sheetTally sheet ≡ noTally
+unfolding sheetTally pick
+tally-long sheet h = rw (lt-ltb 60000 (length sheet) h)
+
+pub tally-none : (sheet : List ℕ) → length sheet ≤ 60000 → linesOf (drop 0 sheet) ≡ [] → sheetTally sheet ≡ noTally
+unfolding sheetTally pick linesTally
+tally-none sheet h none = rw (le-ltb 60000 (length sheet) h, none)
+
+pub tally-begins : (sheet : List ℕ) (start end next : ℕ) (x : Opening) → length sheet ≤ 60000 → Cut sheet 0 start end next
+    → x ≡ opened (take (end - start) (drop start sheet))
+    → sheetTally sheet ≡ talliedBy x (linesOf (drop next sheet))
+unfolding sheetTally pick linesTally
+tally-begins sheet start end next x h cut said = rw (le-ltb 60000 (length sheet) h, said) (ap linesTally (cut .lines))
 
 -- the size that a good first line asks for
 pub started-size : (x : Opening) (l : List ℕ) (n : ℕ) → x ≡ opened l → x ≡ Fresh n → isOneOf 8 n ≡ true

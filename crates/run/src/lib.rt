@@ -5,6 +5,7 @@ ghost use mathlib.Core.Bool.{true};
 ghost use mathlib.Core.List.{_++_};
 ghost use lib.ListN.{length, drop};
 ghost use Rattle.view.specs.Logic.{isOneOf};
+ghost use Rattle.tallies.specs.Tally.{noTally};
 ghost use Rattle.system.specs.Fresh.{freshSystem};
 ghost use Rattle.sound.specs.Sound.{soundSystem};
 ghost use Rattle.image.specs.Image.{imageWidth, systemIn};
@@ -12,8 +13,9 @@ ghost use Rattle.print.specs.Page.{page, typed};
 ghost use Rattle.sheet.specs.Lines.{linesOf};
 ghost use Rattle.sheet.specs.declared.parse.Opening.the-variants.{Bad as BadFirst};
 ghost use Rattle.sheet.specs.declared.parse.Line.the-variants.{Settle};
-ghost use Rattle.run.specs.Output.{endingText, lineDone, printedFrom, startedBy, output};
+ghost use Rattle.run.specs.Output.{endingText, lineDone, printedFrom, startedBy, output, talliedFrom, sheetTally};
 use engine::attempt;
+use engine::counts::still_waiting;
 use fresh::put_fresh;
 use print::put_column;
 use print::put_numbered;
@@ -29,9 +31,25 @@ use sheet::parse::parse;
 use sheet::parse::parse_first;
 use sheet::reader::read_line;
 use system::refusal::BAD_LINE;
+use tallies::Tally;
+use tallies::sum;
 
 // A sheet of more bytes is a long one.
 pub const SHEET_LIMIT: usize = 60_000;
+
+// Where what is printed ends, and what is counted: for a line, or for a whole sheet.
+pub struct SheetRun {
+    pub end: usize,
+    pub tally: Tally,
+}
+
+// Nothing is counted.
+fn nothing_counted(end: usize) -> SheetRun
+    ensures { λ r. ⌜ (r .end ≡ end) × (r .tally ≡ noTally) ⌝ }
+{
+    let tally = tallies::none();
+    SheetRun { end, tally }
+}
 
 // How a settling run ended.
 fn put_ending(out: &mut [u8], at: usize, ending: Ending) -> usize
@@ -45,51 +63,61 @@ fn put_ending(out: &mut [u8], at: usize, ending: Ending) -> usize
 }
 
 // A settling run, on an image whose system is sound, and what is printed for it.
-fn run_settle(image: &mut [u8], out: &mut [u8], at: usize, number: usize) -> usize
+fn run_settle(image: &mut [u8], out: &mut [u8], at: usize, number: usize) -> SheetRun
     requires { ⌜ soundSystem (systemIn (now image)) ≡ true ⌝ }
-    ensures { λ r. ⌜ (page (now (out .exit)) r ≡ typed (page (now (out .entry)) at) (lineDone number (systemIn (now (image .entry))) Settle .text)) × (systemIn (now (image .exit)) ≡ lineDone number (systemIn (now (image .entry))) Settle .system) × (soundSystem (systemIn (now (image .exit))) ≡ true) ⌝ }
+    ensures { λ r. ⌜ (page (now (out .exit)) (r .end) ≡ typed (page (now (out .entry)) at) (lineDone number (systemIn (now (image .entry))) Settle .text)) × (systemIn (now (image .exit)) ≡ lineDone number (systemIn (now (image .entry))) Settle .system) × (soundSystem (systemIn (now (image .exit))) ≡ true) × (r .tally ≡ lineDone number (systemIn (now (image .entry))) Settle .tally) ⌝ }
 {
     let run = settle(image);
     let ending = run.ending;
-    let end = put_three_numbers(out, at, number, run.refusal, run.steps as usize);
-    put_ending(out, end, ending)
+    let tally = run.tally;
+    let told = put_three_numbers(out, at, number, run.refusal, run.steps as usize);
+    let end = put_ending(out, told, ending);
+    SheetRun { end, tally }
 }
 
 // A line after the first, on an image whose system is sound: its step or settling run is done, or it is
 // refused; and what is printed for it.
-fn run_line(image: &mut [u8], out: &mut [u8], at: usize, number: usize, line: Line) -> usize
+fn run_line(image: &mut [u8], out: &mut [u8], at: usize, number: usize, line: Line) -> SheetRun
     requires { ⌜ soundSystem (systemIn (now image)) ≡ true ⌝ }
-    ensures { λ r. ⌜ (page (now (out .exit)) r ≡ typed (page (now (out .entry)) at) (lineDone number (systemIn (now (image .entry))) line .text)) × (systemIn (now (image .exit)) ≡ lineDone number (systemIn (now (image .entry))) line .system) × (soundSystem (systemIn (now (image .exit))) ≡ true) ⌝ }
+    ensures { λ r. ⌜ (page (now (out .exit)) (r .end) ≡ typed (page (now (out .entry)) at) (lineDone number (systemIn (now (image .entry))) line .text)) × (systemIn (now (image .exit)) ≡ lineDone number (systemIn (now (image .entry))) line .system) × (soundSystem (systemIn (now (image .exit))) ≡ true) × (r .tally ≡ lineDone number (systemIn (now (image .entry))) line .tally) ⌝ }
 {
     match line {
-        Line::Bad(column) => put_column(out, at, number, BAD_LINE, column),
+        Line::Bad(column) => { nothing_counted(put_column(out, at, number, BAD_LINE, column)) }
         Line::Step(o) => {
-            let refusal = attempt(image, o);
-            put_numbered(out, at, number, refusal)
+            let a = attempt(image, o);
+            let tally = a.tally;
+            let end = put_numbered(out, at, number, a.refusal);
+            SheetRun { end, tally }
         }
         Line::Settle => run_settle(image, out, at, number),
     }
 }
 
 // The lines from a place on, of a sheet that runs on the system of an image, which is sound.
-fn run_lines(sheet: &[u8], from: usize, image: &mut [u8], out: &mut [u8]) -> usize
+fn run_lines(sheet: &[u8], from: usize, image: &mut [u8], out: &mut [u8]) -> SheetRun
     requires { ⌜ (soundSystem (systemIn (now image)) ≡ true) × (length (now sheet) ≤ 60000) ⌝ }
-    ensures { λ r. ⌜ page (now (out .exit)) r ≡ typed (page (now (out .entry)) 0) (printedFrom 2 (systemIn (now (image .entry))) (linesOf (drop from (now (sheet .entry))))) ⌝ }
+    ensures { λ r. ⌜ (page (now (out .exit)) (r .end) ≡ typed (page (now (out .entry)) 0) (printedFrom 2 (systemIn (now (image .entry))) (linesOf (drop from (now (sheet .entry)))))) × (r .tally ≡ talliedFrom 2 noTally (systemIn (now (image .entry))) (linesOf (drop from (now (sheet .entry))))) ⌝ }
 {
     let mut at = from;
     let mut line: usize = 2;
     let mut end = 0;
+    let mut tally = tallies::none();
     loop {
         match read_line(sheet, at) {
             Found::End => {
-                return put_units(out, end, image);
+                tally = sum(tally, still_waiting(image));
+                end = put_units(out, end, image);
+                return SheetRun { end, tally };
             }
             Found::Span {
                 start,
                 end: stop,
                 next,
             } => {
-                end = run_line(image, out, end, line, parse(&sheet[start..stop]));
+                let one = run_line(image, out, end, line, parse(&sheet[start..stop]));
+                let more = one.tally;
+                tally = sum(tally, more);
+                end = one.end;
                 line += 1;
                 at = next;
             }
@@ -131,31 +159,39 @@ fn image_buffer() -> [u8; 2105]
 }
 
 // The lines from a place on, of a sheet that starts a fresh system of n processes, 1 to 8.
-fn run_fresh(sheet: &[u8], from: usize, n: u8, out: &mut [u8]) -> usize
+fn run_fresh(sheet: &[u8], from: usize, n: u8, out: &mut [u8]) -> SheetRun
     requires { ⌜ (isOneOf 8 n ≡ true) × (length (now sheet) ≤ 60000) ⌝ }
-    ensures { λ r. ⌜ page (now (out .exit)) r ≡ typed (page (now (out .entry)) 0) (printedFrom 2 (freshSystem n) (linesOf (drop from (now (sheet .entry))))) ⌝ }
+    ensures { λ r. ⌜ (page (now (out .exit)) (r .end) ≡ typed (page (now (out .entry)) 0) (printedFrom 2 (freshSystem n) (linesOf (drop from (now (sheet .entry)))))) × (r .tally ≡ talliedFrom 2 noTally (freshSystem n) (linesOf (drop from (now (sheet .entry))))) ⌝ }
 {
     let mut image = image_buffer();
     put_fresh(&mut image, n);
     run_lines(sheet, from, &mut image, out)
 }
 
-// A whole sheet, printed into a lent buffer as far as there is room.
-pub fn run_sheet(sheet: &[u8], out: &mut [u8]) -> usize
-    ensures { λ r. ⌜ page (now (out .exit)) r ≡ typed (page (now (out .entry)) 0) (output (now (sheet .entry))) ⌝ }
+// A whole sheet, printed into a lent buffer as far as there is room, and what it counts.
+pub fn tally_sheet(sheet: &[u8], out: &mut [u8]) -> SheetRun
+    ensures { λ r. ⌜ (page (now (out .exit)) (r .end) ≡ typed (page (now (out .entry)) 0) (output (now (sheet .entry)))) × (r .tally ≡ sheetTally (now (sheet .entry))) ⌝ }
 {
     if SHEET_LIMIT < sheet.len() {
-        return put_text(out, 0, b"0 9\n");
+        return nothing_counted(put_text(out, 0, b"0 9\n"));
     }
     match read_line(sheet, 0) {
-        Found::End => 0,
+        Found::End => nothing_counted(0),
         Found::Span { start, end, next } => {
             match parse_first(&sheet[start..end]) {
                 Opening::Fresh(n) => run_fresh(sheet, next, n, out),
-                Opening::Bad(column) => all_bad(sheet, next, column, out),
+                Opening::Bad(column) => nothing_counted(all_bad(sheet, next, column, out)),
             }
         }
     }
+}
+
+// The same, where the counts are not asked for.
+pub fn run_sheet(sheet: &[u8], out: &mut [u8]) -> usize
+    ensures { λ r. ⌜ page (now (out .exit)) r ≡ typed (page (now (out .entry)) 0) (output (now (sheet .entry))) ⌝ }
+{
+    let run = tally_sheet(sheet, out);
+    run.end
 }
 
 // A whole sheet, printed into a buffer that has room for it: what is printed is the buffer's first

@@ -8,15 +8,18 @@ use borrow.Author.Tests.{ltb-true, ltb-false, eqb-true, eq-eqb, ne-eqb, eqb-fals
 use lib.Dec.{eqb, ltb}
 use Rattle.view.specs.Logic.{pick, allUpTo, eachUpTo}
 use Rattle.view.proofs.Laws.{by-pick, by-test, and-left, and-right, and-intro, true-is-not-false}
+use Rattle.tallies.specs.Tally.{plus, capped}
 use Rattle.system.specs.declared.System.{System}
 use Rattle.plan.specs.declared.Action.{Action}
 use Rattle.plan.specs.Cut.{whole}
 use Rattle.step.specs.Step.{stepped}
+use Rattle.step.specs.Counts.{stepTally}
 use Rattle.image.specs.Image.{systemIn}
+use Rattle.settle.specs.declared.StepsDone.{StepsDone}
 use Rattle.settle.specs.declared.Half.{Half}
 use Rattle.settle.specs.declared.Half.the-variants.{Takes, Answers}
 use Rattle.settle.specs.Settle.{Progress, passing, tried, moveOf, triedWith, triedAt, halfDone, roundDone, unlessIdle, roundsDone, refusedAt, allRefusedAt, noneDone, nothingToDo}
-use Rattle.settle.specs.Advances.{progressIn, Advances}
+use Rattle.settle.specs.Advances.{progressIn, nothingDone, Advances}
 use Rattle.settle.proofs.Within.{round-within}
 
 -- f makes progress just where the test fails of the system
@@ -56,7 +59,7 @@ looks-tried budget o =
     }
   where
     after : Bool → Bool → Progress → Progress
-    after below done x = pick below (pick done (record { system = stepped (x .system) (whole o) .system; steps = suc (x .steps) }) x) x
+    after below done x = pick below (pick done (record { system = stepped (x .system) (whole o) .system; steps = suc (x .steps); tally = capped (plus (x .tally) (stepTally (x .system) (whole o))) }) x) x
 
     rise : (below done : Bool) (x : Progress) → x .steps ≤ after below done x .steps
     rise true true x = omega arith
@@ -86,16 +89,20 @@ looks-round budget n =
     looks-then budget (halfDone budget Takes n) (halfDone budget Answers n) (λ s. noneDone n s Takes) (λ s. noneDone n s Answers) (looks-half budget n Takes) (looks-half budget n Answers)
 
 -- a round of at most one step, on a copy, tells whether there is one to do
-pub round-tells : (n r : ℕ) (b c d : List ℕ) → n ≡ systemIn b .n → c ≡ b → Advances 1 (roundDone 1 n) 0 c r d → eqb r 0 ≡ nothingToDo (systemIn b)
+pub round-tells : (n : ℕ) (x r : StepsDone) (b c d : List ℕ) → x ≡ nothingDone → n ≡ systemIn b .n → c ≡ b → Advances 1 (roundDone 1 n) x c r d
+    → eqb (r .steps) 0 ≡ nothingToDo (systemIn b)
 unfolding nothingToDo
-round-tells n r b c d size same round =
-    let is : r ≡ roundDone 1 n (progressIn b 0) .steps = ap (λ (y : Progress). y .steps) (round .reached) ∙ ap (λ (l : List ℕ). roundDone 1 n (progressIn l 0) .steps) same in
+round-tells n x r b c d none size same round =
+    let is : r .steps ≡ roundDone 1 n (progressIn b nothingDone) .steps =
+    ap (λ (y : Progress). y .steps) (round .reached)
+    ∙ ap (λ (l : List ℕ). roundDone 1 n (progressIn l x) .steps) same
+    ∙ ap (λ (y : StepsDone). roundDone 1 n (progressIn b y) .steps) none in
     told is (noneDone n (systemIn b) Takes && noneDone n (systemIn b) Answers) refl
     ∙ ap (λ (k : ℕ). noneDone k (systemIn b) Takes && noneDone k (systemIn b) Answers) size
   where
-    told : r ≡ roundDone 1 n (progressIn b 0) .steps → (t : Bool) → (noneDone n (systemIn b) Takes && noneDone n (systemIn b) Answers) ≡ t → eqb r 0 ≡ t
-    told is true e = eq-eqb r 0 (is ∙ ap (λ (y : Progress). y .steps) (looks-round 1 n .still (progressIn b 0) e))
-    told is false e = ne-eqb r 0 (λ none. true-is-not-false (sym (looks-round 1 n .idle (progressIn b 0) (omega arith) (sym is ∙ none) .0) ∙ e))
+    told : r .steps ≡ roundDone 1 n (progressIn b nothingDone) .steps → (t : Bool) → (noneDone n (systemIn b) Takes && noneDone n (systemIn b) Answers) ≡ t → eqb (r .steps) 0 ≡ t
+    told is true e = eq-eqb (r .steps) 0 (is ∙ ap (λ (y : Progress). y .steps) (looks-round 1 n .still (progressIn b nothingDone) e))
+    told is false e = ne-eqb (r .steps) 0 (λ none. true-is-not-false (sym (looks-round 1 n .idle (progressIn b nothingDone) (omega arith) (sym is ∙ none) .0) ∙ e))
 
 idle-again : (budget n : ℕ) (x : Progress) → x .steps ≤ budget → roundDone budget n x .steps ≡ x .steps
     → roundDone budget n (roundDone budget n x) .steps ≡ roundDone budget n x .steps

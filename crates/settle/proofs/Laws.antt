@@ -1,6 +1,6 @@
 -- How the parts of a settling run are put together: what each does to an image, and that a round that does nothing finds nothing to do.
 use Prim.Native.Nat.{ℕ, zero, suc, _+_, _-_, _≤_, _<_}
-use mathlib.Core.Path.{_≡_, refl, sym, _∙_, ap}
+use mathlib.Core.Path.{_≡_, refl, sym, _∙_, ap, subst}
 use mathlib.Core.Bool.{Bool, true, false, _&&_, not}
 use mathlib.Core.List.{List, _++_, append-nil}
 use native.Mathlib.Omega.{arith}
@@ -10,26 +10,30 @@ use lib.ListN.{length, take, drop}
 use lib.Seq.{take-length, drop-length}
 use Rattle.view.specs.Logic.{pick, eachUpTo}
 use Rattle.view.proofs.Laws.{each-more, true-is-not-false}
+use Rattle.tallies.specs.declared.Tally.{Tally}
+use Rattle.tallies.specs.Tally.{noTally, plus, capped}
 use Rattle.system.specs.declared.Outcome.{Outcome}
 use Rattle.sound.specs.Sound.{soundSystem}
 use Rattle.plan.specs.declared.Action.{Action}
 use Rattle.plan.specs.Cut.{whole}
 use Rattle.step.specs.Step.{stepped}
+use Rattle.step.specs.Counts.{stepTally}
 use Rattle.image.specs.Image.{imageWidth, decoded, noSystem, systemIn}
 use Rattle.engine.specs.Engine.{Attempts}
 use Rattle.engine.proofs.Given.{no-system}
 use Rattle.settle.specs.declared.Ending.{Ending}
 use Rattle.settle.specs.declared.Settled.{Settled}
+use Rattle.settle.specs.declared.StepsDone.{StepsDone}
 use Rattle.settle.specs.declared.Ending.the-variants.{Held}
-use Rattle.settle.specs.Settle.{Progress, passing, tried, roundDone, unlessIdle, roundsDone, endingOf, endedWith, settled, Settles}
-use Rattle.settle.specs.Advances.{progressIn, Advances}
+use Rattle.settle.specs.Settle.{Progress, passing, tried, roundDone, unlessIdle, roundsDone, endingOf, endedWith, settledFrom, settled, settledTally, Settles}
+use Rattle.settle.specs.Advances.{progressIn, nothingDone, withStep, Advances}
 
 -- ---- on an image
-pub no-advance : (budget steps : ℕ) (b : List ℕ) → soundSystem (systemIn b) ≡ true → Advances budget (λ x. x) steps b steps b
-no-advance budget steps b sound =
+pub no-advance : (budget : ℕ) (s : StepsDone) (b : List ℕ) → soundSystem (systemIn b) ≡ true → Advances budget (λ x. x) s b s b
+no-advance budget s b sound =
     record { reached = refl; stays = sound; rises = omega arith; inside = λ h. h; kept = λ e. refl }
 
-pub advance-then : (budget : ℕ) (f g : Progress → Progress) (s m r : ℕ) (b c d : List ℕ) → Advances budget f s b m c → Advances budget g m c r d
+pub advance-then : (budget : ℕ) (f g : Progress → Progress) (s m r : StepsDone) (b c d : List ℕ) → Advances budget f s b m c → Advances budget g m c r d
     → Advances budget (λ x. g (f x)) s b r d
 advance-then budget f g s m r b c d one two =
     record {
@@ -41,7 +45,7 @@ advance-then budget f g s m r b c d one two =
     }
 
 -- one turn more of a loop
-pub advance-more : (budget : ℕ) (f : ℕ → Progress → Progress) (k s m r : ℕ) (b c d : List ℕ) → Advances budget (eachUpTo k f) s b m c
+pub advance-more : (budget : ℕ) (f : ℕ → Progress → Progress) (k : ℕ) (s m r : StepsDone) (b c d : List ℕ) → Advances budget (eachUpTo k f) s b m c
     → Advances budget (f (k + 1)) m c r d → Advances budget (eachUpTo (k + 1) f) s b r d
 advance-more budget f k s m r b c d one two =
     let both = advance-then budget (eachUpTo k f) (f (k + 1)) s m r b c d one two in
@@ -54,43 +58,47 @@ advance-more budget f k s m r b c d one two =
     }
 
 -- ---- one take or answer
-pub spent : (budget : ℕ) (o : Action) (s : ℕ) (b : List ℕ) → soundSystem (systemIn b) ≡ true → budget ≤ s → Advances budget (tried budget o) s b s b
+pub spent : (budget : ℕ) (o : Action) (s : StepsDone) (b : List ℕ) → soundSystem (systemIn b) ≡ true → budget ≤ s .steps → Advances budget (tried budget o) s b s b
 unfolding tried pick
 spent budget o s b sound over =
     record {
-      reached = rw (le-ltb s budget over);
+      reached = rw (le-ltb (s .steps) budget over);
       stays = sound;
       rises = omega arith;
       inside = λ h. h;
       kept = λ e. refl;
     }
 
-module _ (budget : ℕ) (o : Action) (s : ℕ) (b : List ℕ) (sound : soundSystem (systemIn b) ≡ true) (below : s < budget) (k : ℕ) (c : List ℕ)
+module _ (budget : ℕ) (o : Action) (s : StepsDone) (b : List ℕ) (sound : soundSystem (systemIn b) ≡ true) (below : s .steps < budget) (k : ℕ) (c : List ℕ)
     (a : Attempts (whole o) b k c) where
   pub one-refused : (k ≡ 0 → ⊥) → Advances budget (tried budget o) s b s c
   unfolding tried passing pick
   one-refused some =
       record {
         reached =
-            rw (a .gives .kept some, lt-ltb s budget below, ← ap (λ (x : Outcome). x .refusal) (a .steps sound .outcome), ne-eqb k 0 some);
+            rw (a .gives .kept some, lt-ltb (s .steps) budget below, ← ap (λ (x : Outcome). x .refusal) (a .steps sound .outcome), ne-eqb k 0 some);
         stays = a .stays sound;
         rises = omega arith;
         inside = λ h. h;
         kept = λ e. a .gives .kept some;
       }
 
-  pub one-done : k ≡ 0 → Advances budget (tried budget o) s b (s + 1) c
+  done : k ≡ 0 → Advances budget (tried budget o) s b (withStep s (stepTally (systemIn b) (whole o))) c
   unfolding tried passing pick
-  one-done none =
+  done none =
       record {
         reached =
-            rw (lt-ltb s budget below, ← ap (λ (x : Outcome). x .refusal) (a .steps sound .outcome), ← ap (λ (x : Outcome). x .system) (a .steps sound .outcome), eq-eqb k 0 none)
-            (ap (λ (j : ℕ). progressIn c j) (omega arith));
+            rw (lt-ltb (s .steps) budget below, ← ap (λ (x : Outcome). x .refusal) (a .steps sound .outcome), ← ap (λ (x : Outcome). x .system) (a .steps sound .outcome), eq-eqb k 0 none)
+            (ap (λ (j : ℕ). progressIn c (record { steps = j; tally = capped (plus (s .tally) (stepTally (systemIn b) (whole o))) })) (omega arith));
         stays = a .stays sound;
         rises = omega arith;
         inside = λ h. omega arith;
         kept = λ e. absurd (omega (arith, e));
       }
+
+  pub one-done : k ≡ 0 → (t : Tally) → t ≡ stepTally (systemIn b) (whole o) → (y : StepsDone) → y ≡ withStep s t → Advances budget (tried budget o) s b y c
+  one-done none t counts y is =
+      subst (λ (z : StepsDone). Advances budget (tried budget o) s b z c) (sym is) (rw counts (done none))
 
 -- ---- at rest
 -- where nothing is recorded no answer could be given
@@ -101,15 +109,15 @@ no-answer false live = refl
 
 -- ---- rounds
 -- so far on the way from bytes b to the end of the rounds: bytes c after some steps, with rounds enough ahead
-pub record Ahead (budget n : ℕ) (b : List ℕ) (steps : ℕ) (c : List ℕ) : Type 0 where
+pub record Ahead (budget n : ℕ) (b : List ℕ) (x : StepsDone) (c : List ℕ) : Type 0 where
   pub left : ℕ
-  pub enough : budget < left + steps
-  pub within : steps ≤ budget
-  pub goal : roundsDone (suc budget) budget n (progressIn b 0) ≡ roundsDone left budget n (progressIn c steps)
+  pub enough : budget < left + x .steps
+  pub within : x .steps ≤ budget
+  pub goal : roundsDone (suc budget) budget n (progressIn b nothingDone) ≡ roundsDone left budget n (progressIn c x)
   pub stays : soundSystem (systemIn c) ≡ true
-  pub kept : steps ≡ 0 → c ≡ b
+  pub kept : x .steps ≡ 0 → c ≡ b
 
-pub at-start : (budget n : ℕ) (b : List ℕ) → soundSystem (systemIn b) ≡ true → Ahead budget n b 0 b
+pub at-start : (budget n : ℕ) (b : List ℕ) → soundSystem (systemIn b) ≡ true → Ahead budget n b nothingDone b
 at-start budget n b sound =
     record { left = suc budget; enough = omega arith; within = omega arith; goal = refl; stays = sound; kept = λ e. refl }
 
@@ -120,20 +128,20 @@ unfolding roundsDone
 unrolled zero budget n x h = absurd (omega arith)
 unrolled (suc j) budget n x h = (j, refl, refl)
 
-module _ (budget n : ℕ) (b : List ℕ) (s : ℕ) (c : List ℕ) (r : ℕ) (d : List ℕ) (far : Ahead budget n b s c) (round : Advances budget (roundDone budget n) s c r d) where
-  pub round-idle : r ≡ s → Advances budget (roundsDone (suc budget) budget n) 0 b r d
+module _ (budget n : ℕ) (b : List ℕ) (s : StepsDone) (c : List ℕ) (r : StepsDone) (d : List ℕ) (far : Ahead budget n b s c) (round : Advances budget (roundDone budget n) s c r d) where
+  pub round-idle : r .steps ≡ s .steps → Advances budget (roundsDone (suc budget) budget n) nothingDone b r d
   unfolding unlessIdle pick
   round-idle e =
       let u = unrolled (far .left) budget n (progressIn c s) (omega (arith, far .enough, far .within)) in
       record {
-        reached = sym (far .goal ∙ u .2 ∙ rw (← round .reached, eq-eqb r s e));
+        reached = sym (far .goal ∙ u .2 ∙ rw (← round .reached, eq-eqb (r .steps) (s .steps) e));
         stays = round .stays;
         rises = omega arith;
         inside = λ h. round .inside (far .within);
         kept = λ none. round .kept e ∙ far .kept (sym e ∙ none);
       }
 
-  pub round-more : (r ≡ s → ⊥) → Ahead budget n b r d
+  pub round-more : (r .steps ≡ s .steps → ⊥) → Ahead budget n b r d
   unfolding unlessIdle pick
   round-more some =
       let u = unrolled (far .left) budget n (progressIn c s) (omega (arith, far .enough, far .within)) in
@@ -141,13 +149,13 @@ module _ (budget n : ℕ) (b : List ℕ) (s : ℕ) (c : List ℕ) (r : ℕ) (d :
         left = u .0;
         enough = omega (arith, u .1, far .enough, round .rises, some);
         within = round .inside (far .within);
-        goal = far .goal ∙ u .2 ∙ rw (← round .reached, ne-eqb r s some);
+        goal = far .goal ∙ u .2 ∙ rw (← round .reached, ne-eqb (r .steps) (s .steps) some);
         stays = round .stays;
         kept = λ none. absurd (some (omega (arith, round .rises, none)));
       }
 
   -- the budget that is left falls
-  pub round-less : (r ≡ s → ⊥) → budget - r < budget - s
+  pub round-less : (r .steps ≡ s .steps → ⊥) → budget - r .steps < budget - s .steps
   round-less some = omega (arith, round .rises, some, far .within, round .inside (far .within))
 
 -- ---- a copy
@@ -165,25 +173,27 @@ copy-whole from to after long is =
     is ∙ rw (take-length from, ap (λ (k : ℕ). drop k to) long, drop-length to) (append-nil from)
 
 -- ---- the whole run
-ended : (budget r : ℕ) (c : List ℕ) (e : Ending) → e ≡ endingOf budget (progressIn c r)
-    → _≡_ {A = Settled} (record { refusal = 0; steps = r; ending = e; system = systemIn c }) (endedWith budget (progressIn c r))
+ended : (budget : ℕ) (x : StepsDone) (c : List ℕ) (e : Ending) → e ≡ endingOf budget (progressIn c x)
+    → _≡_ {A = Settled} (record { refusal = 0; steps = x .steps; ending = e; system = systemIn c }) (endedWith budget (progressIn c x))
 unfolding endedWith
-ended budget r c e is = rw is
+ended budget x c e is = rw is
 
-pub run-settles : (budget n r : ℕ) (b c : List ℕ) (e : Ending) → soundSystem (systemIn b) ≡ true → n ≡ systemIn b .n
-    → Advances budget (roundsDone (suc budget) budget n) 0 b r c → e ≡ endingOf budget (progressIn c r)
-    → Settles (settled budget (systemIn b)) b (record { refusal = 0; steps = r; ending = e }) c
-unfolding settled pick
-run-settles budget n r b c e sound size run ends =
-    let reached : progressIn c r ≡ roundsDone (suc budget) budget (systemIn b .n) (progressIn b 0) =
-    run .reached ∙ ap (λ (k : ℕ). roundsDone (suc budget) budget k (progressIn b 0)) size in
+pub run-settles : (budget n : ℕ) (x : StepsDone) (b c : List ℕ) (e : Ending) → soundSystem (systemIn b) ≡ true → n ≡ systemIn b .n
+    → Advances budget (roundsDone (suc budget) budget n) nothingDone b x c → e ≡ endingOf budget (progressIn c x)
+    → Settles budget b (record { refusal = 0; steps = x .steps; ending = e; tally = x .tally }) c
+unfolding settled settledTally pick
+run-settles budget n x b c e sound size run ends =
+    let reached : progressIn c x ≡ settledFrom budget (systemIn b) =
+    run .reached ∙ ap (λ (k : ℕ). roundsDone (suc budget) budget k (progressIn b nothingDone)) size in
     record {
-      outcome = rw (sound, ← reached) (ended budget r c e ends);
+      outcome = rw (sound, ← reached) (ended budget x c e ends);
+      tally = rw (sound, ← reached);
       kept = run .kept;
       stays = λ h. run .stays;
     }
 
-pub unsound-settles : (budget : ℕ) (b : List ℕ) → soundSystem (systemIn b) ≡ false → Settles (settled budget (systemIn b)) b (record { refusal = 1; steps = 0; ending = Held }) b
-unfolding settled pick
-unsound-settles budget b off =
-    record { outcome = rw off; kept = λ e. refl; stays = λ on. true-is-not-false (sym on ∙ off) }
+pub unsound-settles : (budget : ℕ) (b : List ℕ) (t : Tally) → t ≡ noTally → soundSystem (systemIn b) ≡ false
+    → Settles budget b (record { refusal = 1; steps = 0; ending = Held; tally = t }) b
+unfolding settled settledTally pick
+unsound-settles budget b t none off =
+    record { outcome = rw off; tally = rw off none; kept = λ e. refl; stays = λ on. true-is-not-false (sym on ∙ off) }

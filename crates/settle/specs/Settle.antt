@@ -8,6 +8,8 @@ use mathlib.Core.List.{List}
 use lib.Dec.{eqb, ltb}
 use Rattle.view.specs.declared.ProcessId.{ProcessId}
 use Rattle.view.specs.Logic.{pick, unless, allUpTo, eachUpTo}
+use Rattle.tallies.specs.declared.Tally.{Tally}
+use Rattle.tallies.specs.Tally.{noTally, plus, capped}
 use Rattle.system.specs.declared.System.{System}
 use Rattle.system.specs.declared.Outcome.{Outcome}
 use Rattle.sound.specs.Sound.{soundSystem}
@@ -15,6 +17,7 @@ use Rattle.plan.specs.declared.Action.{Action}
 use Rattle.plan.specs.declared.Action.the-variants.{Receive, Respond}
 use Rattle.plan.specs.Cut.{whole}
 use Rattle.step.specs.Step.{stepped}
+use Rattle.step.specs.Counts.{stepTally}
 use Rattle.step.specs.Rest.{atRest}
 use Rattle.image.specs.Image.{systemIn}
 use Rattle.settle.specs.declared.Half.{Half}
@@ -24,18 +27,21 @@ use Rattle.settle.specs.declared.Ending.the-variants.{Rest, Held, Budget
 use Rattle.settle.specs.declared.Settling.{Settling}
 use Rattle.settle.specs.declared.Settled.{Settled}
 
--- a system on its way to rest, and the steps done so far
+-- a system on its way to rest, the steps done so far, and what they count (S-7)
 pub record Progress : Type 0 where
   pub system : System
   pub steps : ℕ
+  pub tally : Tally
 
 -- a step that is done counts; "refused ones passed over"
-unfoldable pub passing : Progress → Outcome → Progress
-passing x a = pick (eqb (a .refusal) 0) (record { system = a .system; steps = suc (x .steps) }) x
+unfoldable pub passing : Progress → Tally → Outcome → Progress
+passing x t a =
+    pick (eqb (a .refusal) 0) (record { system = a .system; steps = suc (x .steps); tally = capped (plus (x .tally) t) }) x
 
 -- one take or answer is tried, unless the budget is used up
 unfoldable pub tried : ℕ → Action → Progress → Progress
-tried budget o x = pick (ltb (x .steps) budget) (passing x (stepped (x .system) (whole o))) x
+tried budget o x =
+    pick (ltb (x .steps) budget) (passing x (stepTally (x .system) (whole o)) (stepped (x .system) (whole o))) x
 
 abbrev process : ℕ → ProcessId
 process k = record { 0 = k }
@@ -88,14 +94,28 @@ endingOf budget x = unless (ltb (x .steps) budget || nothingToDo (x .system)) Bu
 unfoldable pub endedWith : ℕ → Progress → Settled
 endedWith budget x = record { refusal = 0; steps = x .steps; ending = endingOf budget x; system = x .system }
 
+-- before the first step
+abbrev pub outset : System → Progress
+outset s = record { system = s; steps = 0; tally = noTally }
+
+-- the whole run
+abbrev pub settledFrom : ℕ → System → Progress
+settledFrom budget s = roundsDone (suc budget) budget (s .n) (outset s)
+
 -- "An unsound table gives 1 and 0 steps." The third answer is free there: it is held up, "everything else"
 unfoldable pub settled : ℕ → System → Settled
 settled budget s =
     unless (soundSystem s) (record { refusal = 1; steps = 0; ending = Held; system = s })
-    (endedWith budget (roundsDone (suc budget) budget (s .n) (record { system = s; steps = 0 })))
+    (endedWith budget (settledFrom budget s))
 
--- bytes b become bytes c and r is answered: that is the run o; where no step was done every byte is as it was, and a sound system stays one
-pub record Settles (o : Settled) (b : List ℕ) (r : Settling) (c : List ℕ) : Type 0 where
-  pub outcome : record { refusal = r .refusal; steps = r .steps; ending = r .ending; system = systemIn c } ≡ o
+-- what the run counts; nothing, where it is refused
+unfoldable pub settledTally : ℕ → System → Tally
+settledTally budget s = unless (soundSystem s) noTally (settledFrom budget s .tally)
+
+-- bytes b become bytes c and r is answered: that is the run with its budget; where no step was done every byte is as it was, and a sound
+-- system stays one
+pub record Settles (budget : ℕ) (b : List ℕ) (r : Settling) (c : List ℕ) : Type 0 where
+  pub outcome : record { refusal = r .refusal; steps = r .steps; ending = r .ending; system = systemIn c } ≡ settled budget (systemIn b)
+  pub tally : r .tally ≡ settledTally budget (systemIn b)
   pub kept : r .steps ≡ 0 → c ≡ b
   pub stays : soundSystem (systemIn b) ≡ true → soundSystem (systemIn c) ≡ true

@@ -1,6 +1,6 @@
 // The settling run: takes and answers in rounds, on the image that the caller lends, until a whole
 // round does nothing.
-ghost use Prim.Native.Nat.{suc};
+ghost use Prim.Native.Nat.{suc, _<_};
 ghost use mathlib.Core.Path.{_≡_};
 ghost use mathlib.Core.Bool.{true, not};
 ghost use lib.ListN.{length};
@@ -8,9 +8,9 @@ ghost use Rattle.view.specs.Logic.{pick};
 ghost use Rattle.sound.specs.Sound.{soundSystem};
 ghost use Rattle.step.specs.Rest.{restingFrom, restingAt, atRest};
 ghost use Rattle.image.specs.Image.{imageWidth, systemIn};
-ghost use Rattle.settle.specs.Settle.{moveOf, tried, triedAt, halfDone, roundDone, roundsDone, nothingToDo, endingOf, settled, Settles};
+ghost use Rattle.settle.specs.Settle.{moveOf, tried, triedAt, halfDone, roundDone, roundsDone, nothingToDo, endingOf, Settles};
 ghost use Rattle.settle.specs.declared.Ending.the-variants.{Rest, Held};
-ghost use Rattle.settle.specs.Advances.{Advances, progressIn};
+ghost use Rattle.settle.specs.Advances.{Advances, progressIn, nothingDone, withStep};
 use engine::attempt;
 use image::length_at;
 use image::pending_at;
@@ -22,6 +22,8 @@ use plan::Step;
 use system::Pending;
 use system::System;
 use system::refusal::UNSOUND;
+use tallies::Tally;
+use tallies::sum;
 use view::ProcessId;
 use view::and;
 
@@ -34,11 +36,12 @@ pub enum Ending {
     Budget,
 }
 
-// What a settling run answers: its steps done and how it ended, or a refusal.
+// What a settling run answers: its steps done, how it ended and what it counts, or a refusal.
 pub struct Settling {
     pub refusal: u8,
     pub steps: u16,
     pub ending: Ending,
+    pub tally: Tally,
 }
 
 // What a settling run returns: what it answers, and the system after it.
@@ -47,6 +50,12 @@ pub struct Settled {
     pub steps: u16,
     pub ending: Ending,
     pub system: System,
+}
+
+// The steps of a run so far, and what they count.
+pub struct StepsDone {
+    pub steps: u16,
+    pub tally: Tally,
 }
 
 // A run stops after so many steps at the latest.
@@ -68,31 +77,57 @@ fn move_of(h: Half, p: ProcessId, q: ProcessId) -> Action
     }
 }
 
-// One take or answer, where the budget is not used up. The answer is the steps done so far.
-fn try_one(image: &mut [u8], budget: u16, steps: u16, action: Action) -> u16
-    requires { ⌜ soundSystem (systemIn (now image)) ≡ true ⌝ }
-    ensures { λ r. ⌜ Advances budget (tried budget action) steps (now (image .entry)) r (now (image .exit)) ⌝ }
+// No step yet.
+fn nothing_done() -> StepsDone
+    ensures { λ r. ⌜ r ≡ nothingDone ⌝ }
 {
-    if steps < budget {
-        let refusal = attempt(
+    let tally = tallies::none();
+    StepsDone { steps: 0, tally }
+}
+
+// One step more, and what it counts.
+fn with_step(done: StepsDone, one: Tally) -> StepsDone
+    requires { ⌜ done .steps < 65535 ⌝ }
+    ensures { λ r. ⌜ r ≡ withStep done one ⌝ }
+{
+    let before = done.tally;
+    let tally = sum(before, one);
+    StepsDone {
+        steps: done.steps + 1,
+        tally,
+    }
+}
+
+// One take or answer, where the budget is not used up. The answer is the steps done so far.
+fn try_one(image: &mut [u8], budget: u16, done: StepsDone, action: Action) -> StepsDone
+    requires { ⌜ soundSystem (systemIn (now image)) ≡ true ⌝ }
+    ensures { λ r. ⌜ Advances budget (tried budget action) done (now (image .entry)) r (now (image .exit)) ⌝ }
+{
+    if done.steps < budget {
+        let a = attempt(
             image,
             Step {
                 action,
                 cut: Cut::Whole,
             },
         );
-        if refusal == 0 { steps + 1 } else { steps }
+        if a.refusal == 0 {
+            let one = a.tally;
+            with_step(done, one)
+        } else {
+            done
+        }
     } else {
-        steps
+        done
     }
 }
 
 // Process p, with each of the others and itself, in rising order.
-fn try_at(image: &mut [u8], budget: u16, steps: u16, h: Half, n: u8, p: ProcessId) -> u16
+fn try_at(image: &mut [u8], budget: u16, done: StepsDone, h: Half, n: u8, p: ProcessId) -> StepsDone
     requires { ⌜ soundSystem (systemIn (now image)) ≡ true ⌝ }
-    ensures { λ r. ⌜ Advances budget (triedAt budget h n (p .0)) steps (now (image .entry)) r (now (image .exit)) ⌝ }
+    ensures { λ r. ⌜ Advances budget (triedAt budget h n (p .0)) done (now (image .entry)) r (now (image .exit)) ⌝ }
 {
-    let mut count = steps;
+    let mut count = done;
     let mut q: u8 = 0;
     while q < n {
         q += 1;
@@ -102,11 +137,11 @@ fn try_at(image: &mut [u8], budget: u16, steps: u16, h: Half, n: u8, p: ProcessI
 }
 
 // Half a round: each process in rising order.
-fn half_round(image: &mut [u8], budget: u16, steps: u16, h: Half, n: u8) -> u16
+fn half_round(image: &mut [u8], budget: u16, done: StepsDone, h: Half, n: u8) -> StepsDone
     requires { ⌜ soundSystem (systemIn (now image)) ≡ true ⌝ }
-    ensures { λ r. ⌜ Advances budget (halfDone budget h n) steps (now (image .entry)) r (now (image .exit)) ⌝ }
+    ensures { λ r. ⌜ Advances budget (halfDone budget h n) done (now (image .entry)) r (now (image .exit)) ⌝ }
 {
-    let mut count = steps;
+    let mut count = done;
     let mut p: u8 = 0;
     while p < n {
         p += 1;
@@ -115,25 +150,25 @@ fn half_round(image: &mut [u8], budget: u16, steps: u16, h: Half, n: u8) -> u16
     count
 }
 
-fn round(image: &mut [u8], budget: u16, steps: u16, n: u8) -> u16
+fn round(image: &mut [u8], budget: u16, done: StepsDone, n: u8) -> StepsDone
     requires { ⌜ soundSystem (systemIn (now image)) ≡ true ⌝ }
-    ensures { λ r. ⌜ Advances budget (roundDone budget n) steps (now (image .entry)) r (now (image .exit)) ⌝ }
+    ensures { λ r. ⌜ Advances budget (roundDone budget n) done (now (image .entry)) r (now (image .exit)) ⌝ }
 {
-    let count = half_round(image, budget, steps, Half::Takes, n);
+    let count = half_round(image, budget, done, Half::Takes, n);
     half_round(image, budget, count, Half::Answers, n)
 }
 
 // Rounds, until one does nothing. The answer is the steps done.
-fn rounds(image: &mut [u8], budget: u16, n: u8) -> u16
+fn rounds(image: &mut [u8], budget: u16, n: u8) -> StepsDone
     requires { ⌜ soundSystem (systemIn (now image)) ≡ true ⌝ }
-    ensures { λ r. ⌜ Advances budget (roundsDone (suc budget) budget n) 0 (now (image .entry)) r (now (image .exit)) ⌝ }
+    ensures { λ r. ⌜ Advances budget (roundsDone (suc budget) budget n) nothingDone (now (image .entry)) r (now (image .exit)) ⌝ }
 {
-    let mut steps: u16 = 0;
+    let mut count = nothing_done();
     loop {
-        let before = steps;
-        steps = round(image, budget, before, n);
-        if steps == before {
-            return steps;
+        let before = count.steps;
+        count = round(image, budget, count, n);
+        if count.steps == before {
+            return count;
         }
     }
 }
@@ -190,7 +225,8 @@ fn nothing_to_do(image: &[u8], n: u8) -> bool
 {
     let mut copied = image_buffer();
     bytes::copy(image, &mut copied);
-    round(&mut copied, 1, 0, n) == 0
+    let done = round(&mut copied, 1, nothing_done(), n);
+    done.steps == 0
 }
 
 fn rest_or_held(image: &[u8], n: u8) -> Ending
@@ -204,13 +240,13 @@ fn rest_or_held(image: &[u8], n: u8) -> Ending
     }
 }
 
-// How a run has ended that did so many steps.
-fn ending_of(image: &[u8], budget: u16, steps: u16) -> Ending
+// How a run has ended that did these steps.
+fn ending_of(image: &[u8], budget: u16, done: StepsDone) -> Ending
     requires { ⌜ soundSystem (systemIn (now image)) ≡ true ⌝ }
-    ensures { λ r. ⌜ r ≡ endingOf budget (progressIn (now (image .entry)) steps) ⌝ }
+    ensures { λ r. ⌜ r ≡ endingOf budget (progressIn (now (image .entry)) done) ⌝ }
 {
     let n = size(image);
-    if steps < budget {
+    if done.steps < budget {
         rest_or_held(image, n)
     } else if nothing_to_do(image, n) {
         rest_or_held(image, n)
@@ -221,29 +257,33 @@ fn ending_of(image: &[u8], budget: u16, steps: u16) -> Ending
 
 // The settling run, with a budget of the caller's.
 pub fn settle_within(image: &mut [u8], budget: u16) -> Settling
-    ensures { λ r. ⌜ Settles (settled budget (systemIn (now (image .entry)))) (now (image .entry)) r (now (image .exit)) ⌝ }
+    ensures { λ r. ⌜ Settles budget (now (image .entry)) r (now (image .exit)) ⌝ }
 {
     if integrity::sound(image) {
         let n = size(image);
-        let steps = rounds(image, budget, n);
-        let ending = ending_of(image, budget, steps);
+        let done = rounds(image, budget, n);
+        let ending = ending_of(image, budget, done);
+        let tally = done.tally;
         Settling {
             refusal: 0,
-            steps,
+            steps: done.steps,
             ending,
+            tally,
         }
     } else {
+        let tally = tallies::none();
         Settling {
             refusal: UNSOUND,
             steps: 0,
             ending: Ending::Held,
+            tally,
         }
     }
 }
 
 // The settling run.
 pub fn settle(image: &mut [u8]) -> Settling
-    ensures { λ r. ⌜ Settles (settled 7936 (systemIn (now (image .entry)))) (now (image .entry)) r (now (image .exit)) ⌝ }
+    ensures { λ r. ⌜ Settles 7936 (now (image .entry)) r (now (image .exit)) ⌝ }
 {
     settle_within(image, BUDGET)
 }

@@ -72,7 +72,7 @@ module _ (n : ℕ) where
       each-fresh (λ x. at (x .pending) q (pendingSlot Nothing) .pending ≡ Nothing) (rw (at-replicate 8 q (pendingSlot Nothing))) (rw (at-replicate 8 q (pendingSlot Nothing))) p
 
   -- ---- its channels
-  fresh-channel : (q p : ℕ) → channelAt (freshSystem n) q p ≡ emptyChannel
+  pub fresh-channel : (q p : ℕ) → channelAt (freshSystem n) q p ≡ emptyChannel
   unfolding channelAt freshSystem
   fresh-channel q p = at-replicate 64 (channelNumber q p) emptyChannel
 

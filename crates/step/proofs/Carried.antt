@@ -57,14 +57,14 @@ module _ (s u : System) (ready : Ready s u) (p : ℕ) (number : Numbered p) (liv
       (length-put (processAt u p .pending) (c .proposer .0) _ ∙ ready .frame .shape .pending p)
       (length-put (processAt u p .history .entries) (c .index .0) _ ∙ ready .frame .shape .entries p)
 
-  out : Told v p to m 8 w
+  pub out : Told v p to m 8 w
   out = told-all v v-shape p number to m
 
   v-size : v .n ≡ u .n
   unfolding withProcess
   v-size = refl
 
-  same-crashed : (b : ℕ) → variablesAt v b .crashed ≡ variablesAt s b .crashed
+  pub same-crashed : (b : ℕ) → variablesAt v b .crashed ≡ variablesAt s b .crashed
   unfolding changed
   same-crashed b =
       by-number b p
@@ -78,7 +78,7 @@ module _ (s u : System) (ready : Ready s u) (p : ℕ) (number : Numbered p) (liv
   actor-changed =
       out .frame .processes p ∙ process-same u (ready .frame .shape) p number x ∙ ap (λ (y : Process). changed y c) (ready .frame .processes p)
 
-  has-room : (b : ℕ) → has to b ≡ true → variablesAt s b .crashed ≡ false → channelAt u p b .len < 8
+  pub has-room : (b : ℕ) → has to b ≡ true → variablesAt s b .crashed ≡ false → channelAt u p b .len < 8
   unfolding roomFor takesIfNamed
   has-room b named on =
       let k = has-number to b named in
@@ -90,7 +90,7 @@ module _ (s u : System) (ready : Ready s u) (p : ℕ) (number : Numbered p) (liv
       ap waiting (out .reached b (has-number to b named .1) named (same-crashed b ∙ on) ∙ ap (λ (d : Channel). pushed d m) (channels-stay u p x p b))
       ∙ push-waiting (channelAt u p b) m (ready .frame .shape .slots p b) (has-room b named on)
 
-  as-before : (a b : ℕ) → (a ≡ p → has to b ≡ true → variablesAt s b .crashed ≡ false → ⊥) → channelAt w a b ≡ channelAt u a b
+  pub as-before : (a b : ℕ) → (a ≡ p → has to b ≡ true → variablesAt s b .crashed ≡ false → ⊥) → channelAt w a b ≡ channelAt u a b
   as-before a b h = out .rest a b (λ e l named on. h e named (sym (same-crashed b) ∙ on)) ∙ channels-stay u p x a b
 
   -- one channel, by whether m goes out on it
@@ -106,7 +106,7 @@ module _ (s u : System) (ready : Ready s u) (p : ℕ) (number : Numbered p) (liv
       (λ other. stays-so (as-before a b (λ i named. true-is-not-false (sym named ∙ other)))))
       (λ n. stays-so (as-before a b (λ e. absurd (n e))))
 
-  sent-effect : Effect s w (waitingAt u) p c false to m
+  pub sent-effect : Effect s w (waitingAt u) p c false to m
   sent-effect =
       record {
         shape = out .frame .shape;
@@ -158,10 +158,10 @@ module _ {s w : System} {left : ℕ → ℕ → List Message} {p : ℕ} {c : Cha
       gone .frame .processes p ∙ process-same w (f .shape) p number stopped
       ∙ ap (λ (x : Process). withVariables x (asCrashed (x .variables))) (f .actor)
 
-  elsewhere : (a b : ℕ) → (b ≡ p → ⊥) → channelAt (crashedAt w p) a b ≡ channelAt w a b
+  pub elsewhere : (a b : ℕ) → (b ≡ p → ⊥) → channelAt (crashedAt w p) a b ≡ channelAt w a b
   elsewhere a b n = gone .rest a b n ∙ channels-stay w p stopped a b
 
-  towards : (a : ℕ) → channelAt (crashedAt w p) a p ≡ emptyChannel
+  pub towards : (a : ℕ) → channelAt (crashedAt w p) a p ≡ emptyChannel
   towards = emptied-all halted p (crashedAt w p) gone
 
   same-fate : (a b : ℕ) → (b ≡ p → ⊥) → Fate s w left p false (f .told) m a b → Fate s (crashedAt w p) left p true (f .told) m a b
@@ -214,7 +214,7 @@ doubted-shape u shape p d =
           (shape .trust);
     }
 
-doubted-ready : (s u : System) → Ready s u → (p d : ℕ) → Ready s (doubted u p d)
+pub doubted-ready : (s u : System) → Ready s u → (p d : ℕ) → Ready s (doubted u p d)
 unfolding doubted withTrust processAt channelAt
 doubted-ready s u ready p d =
     record {
@@ -307,13 +307,13 @@ module _ (s : System) (valid : Valid s) where
   abbrev pub sound : Sound s
   sound = sound-facts s (valid .sound)
 
-  known : (k : ℕ) → isOneOf (s .n) k ≡ true → Known s k
+  pub known : (k : ℕ) → isOneOf (s .n) k ≡ true → Known s k
   known k e = let b = one-of (s .n) k e in record { low = b .0; high = b .1; eight = omega (arith, sound .high) }
 
   pub number : (k : ℕ) → Known s k → Numbered k
   number k h = record { low = h .low; high = h .eight }
 
-  ready : (c : Scope) → Known s (c .actor .0) → Known s (c .partner .0) → Ready s (takenOff s c)
+  pub ready : (c : Scope) → Known s (c .actor .0) → Known s (c .partner .0) → Ready s (takenOff s c)
   unfolding takenOff
   ready c to from =
       by-pick (Ready s) (c .takes) _ _

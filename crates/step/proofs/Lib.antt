@@ -3,6 +3,7 @@ pub mod Frames
 pub mod Soundness
 pub mod Cases
 pub mod Effects
+pub mod Weights
 pub mod Broadcasts
 pub mod Trust
 pub mod Carried
@@ -10,3 +11,4 @@ pub mod Inversion
 pub mod SoundSteps
 pub mod Beginning
 pub mod Outcomes
+pub mod Tallied

@@ -15,6 +15,8 @@ use Rattle.view.proofs.Laws.{by-pick, each-keeps, one-of, and-left, and-right, 
 use Rattle.channel.specs.declared.Message.{Message}
 use Rattle.channel.specs.declared.Message.the-variants.{Propose, Retry, Acc, Commit}
 use Rattle.channel.specs.Channel.{frontOf, waiting}
+use Rattle.tallies.specs.Tally.{plus}
+use Rattle.tallies.proofs.Laws.{none-plus, plus-plus}
 use Rattle.system.specs.declared.Pending.{Pending}
 use Rattle.system.specs.declared.Pending.the-variants.{Nothing, Proposal}
 use Rattle.system.specs.declared.Variables.{Variables}
@@ -34,6 +36,7 @@ use Rattle.plan.specs.declared.Step.{Step}
 use Rattle.plan.specs.Plan.{newViewPlan, reportPlan, committingPlan, messagePlan, receivePlan, respondPlan}
 use Rattle.plan.specs.Scope.{scopeOf}
 use Rattle.plan.specs.Cut.{cutShort, cutBy}
+use Rattle.step.specs.Counts.{eventTally, eventsTally}
 use Rattle.step.specs.Step.{planOf, takenOff, doubted, changedAt, emptiedFrom, crashedAt, crashedIf, effected, permitted, carriedOut, attempted, stepped, Event, does, happened, ran}
 use Rattle.step.proofs.Soundness.{Sound, Valid, sound-facts, proposal-facts}
 use Rattle.step.proofs.Cases.{Transition, outline}
@@ -45,10 +48,10 @@ pub zero-or-same : (s : System) (o : Step) → (stepped s o .refusal ≡ 0) ⊎ 
 zero-or-same s o = ⊎-elim inl (λ same. inr (ap (λ (a : Outcome). a .system) same)) (done-or-refused s o)
 
 -- ---- the number of processes stays
-abbrev Sized : ℕ → System → Type 0
+abbrev pub Sized : ℕ → System → Type 0
 Sized n s = s .n ≡ n
 
-effected-size : (n : ℕ) (t : System) (p : ℕ) (a : Plan) → Sized n t → Sized n (effected t p a)
+pub effected-size : (n : ℕ) (t : System) (p : ℕ) (a : Plan) → Sized n t → Sized n (effected t p a)
 unfolding effected doubted withTrust changedAt crashedIf crashedAt emptiedFrom broadcasted sentIfNamed sent withProcess withChannel
 effected-size n t p a e =
     let told =
@@ -191,6 +194,12 @@ pub unsound-is-1 : (s : System) (o : Step) → soundSystem s ≡ false → stepp
 unfolding stepped pick
 unsound-is-1 s o e = rw e
 
+-- so nothing is ever done in it
+pub unsound-stays : (s : System) → soundSystem s ≡ false → (es : List Event) → ran s es ≡ s
+unfolding ran happened
+unsound-stays s e [] = refl
+unsound-stays s e (does o ∷ es) = ap (λ (a : Outcome). ran (a .system) es) (unsound-is-1 s o e) ∙ unsound-stays s e es
+
 -- every number is one of the table's
 pub number-listed : (s : System) (o : Step) → among answers (stepped s o .refusal) ≡ true
 unfolding among stepped
@@ -204,6 +213,13 @@ pub ran-append : (s : System) (es fs : List Event) → ran s (es ++ fs) ≡ ran 
 unfolding ran
 ran-append s [] fs = refl
 ran-append s (e ∷ es) fs = ran-append (happened s e .system) es fs
+
+pub tally-append : (s : System) (es fs : List Event) → eventsTally s (es ++ fs) ≡ plus (eventsTally s es) (eventsTally (ran s es) fs)
+unfolding ran eventsTally
+tally-append s [] fs = sym (none-plus (eventsTally s fs))
+tally-append s (e ∷ es) fs =
+    let t = happened s e .system in
+    ap (plus (eventTally s e)) (tally-append t es fs) ∙ sym (plus-plus (eventTally s e) (eventsTally t es) (eventsTally (ran t es) fs))
 
 -- ---- stopped for good
 stays-stopped : {s t : System} {o : Action} → Transition s t o → (k : ℕ) → variablesAt s k .crashed ≡ true → variablesAt t k .crashed ≡ true

@@ -61,10 +61,13 @@ doubted s p suspects = withTrust s (eachUpTo 8 (suspectedIfNamed s p suspects) (
 unfoldable pub changedAt : System → ℕ → Change → System
 changedAt s p c = withProcess s p (changed (processAt s p) c)
 
--- process p doubts whom its plan says, changes as it says, its message goes out, and it stops or not
+-- process p doubts whom its plan says, changes as it says, and its message goes out
+abbrev pub placed : System → ℕ → Plan → System
+placed t p a = broadcasted (changedAt (doubted t p (a .suspects)) p (a .change)) p (a .addressees) (a .message)
+
+-- and it stops or not
 unfoldable pub effected : System → ℕ → Plan → System
-effected t p a =
-    crashedIf (a .stops) (broadcasted (changedAt (doubted t p (a .suspects)) p (a .change)) p (a .addressees) (a .message)) p
+effected t p a = crashedIf (a .stops) (placed t p a) p
 
 -- The plan of process p is carried out in t; a refusal returns s, the system handed over. Refusal 7: "a message of this step goes
 -- to a unit that has not stopped, over a line that already holds 8".

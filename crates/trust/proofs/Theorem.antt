@@ -25,7 +25,7 @@ use Rattle.step.proofs.Soundness.{Valid, sound-facts}
 use Rattle.step.proofs.Cases.{Known, Doubts, Transition, proposes, follows, outline}
 use Rattle.step.proofs.Inversion.{transition, by-outcome}
 use Rattle.step.proofs.SoundSteps.{step-sound, run-valid}
-use Rattle.step.proofs.Outcomes.{unsound-is-1}
+use Rattle.step.proofs.Outcomes.{unsound-is-1, unsound-stays}
 use Rattle.step.proofs.Beginning.{fresh-variables, fresh-valid}
 use Rattle.trust.specs.Trust.{lacks, momentsAfter, suspicion, lackedOnce, lackedSince, Means, ComesBack}
 use Rattle.trust.proofs.Views.{viewAt, Views, kept, renewed, views}
@@ -229,11 +229,6 @@ meaning n es p q =
     (λ e kp. absurd (nobody p kp))
 
 -- nothing is done in a system of zero processes, which is not sound
-unsound-stays : (s : System) → soundSystem s ≡ false → (es : List Event) → ran s es ≡ s
-unfolding ran happened
-unsound-stays s e [] = refl
-unsound-stays s e (does o ∷ es) = ap (λ (a : Outcome). ran (a .system) es) (unsound-is-1 s o e) ∙ unsound-stays s e es
-
 none-done : (es : List Event) (o : Step) → stepped (ran (freshSystem 0) es) o .refusal ≡ 0 → ⊥
 unfolding freshSystem
 none-done es o done =

@@ -1,4 +1,5 @@
 pub mod Laws
 pub mod Sets
+pub mod Sums
 pub mod Table
 pub mod Views

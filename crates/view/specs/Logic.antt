@@ -1,6 +1,6 @@
 -- The few words that every definition of this project is written with: a choice by a test, a test or a change for each of
 -- the numbers 1 to n, and lists numbered from 1.
-use Prim.Native.Nat.{ℕ, zero, suc, _-_}
+use Prim.Native.Nat.{ℕ, zero, suc, _+_, _-_}
 use mathlib.Core.Bool.{Bool, true, false, _&&_}
 use mathlib.Core.List.{List}
 use lib.Dec.{leb}
@@ -24,6 +24,11 @@ allUpTo (suc k) f = allUpTo k f && f (suc k)
 unfoldable pub eachUpTo : {A : Type 0} → ℕ → (ℕ → A → A) → A → A
 eachUpTo zero f a = a
 eachUpTo (suc k) f a = f (suc k) (eachUpTo k f a)
+
+-- f 1 and f 2 and so on to f n, added up
+unfoldable pub sumUpTo : ℕ → (ℕ → ℕ) → ℕ
+sumUpTo zero f = 0
+sumUpTo (suc k) f = sumUpTo k f + f (suc k)
 
 -- the element numbered k, counted from 1; d where there is none
 unfoldable pub at : {A : Type 0} → List A → ℕ → A → A

@@ -1,6 +1,7 @@
 //! What the differential test and the benchmark share: steps, sheets and images by chance, from a
 //! seed, the ways to each number, and the benchmark's rival.
 
+pub mod classes;
 pub mod dice;
 pub mod faults;
 pub mod lines;
@@ -8,6 +9,8 @@ pub mod litter;
 pub mod poised;
 pub mod rival;
 pub mod settled;
+pub mod sheets;
+pub mod tallied;
 pub mod ways;
 
 use reference::{Action, Step};

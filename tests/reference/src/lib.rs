@@ -9,6 +9,7 @@
 
 pub mod image;
 
+mod class;
 mod message;
 mod process;
 mod refusal;
@@ -17,14 +18,17 @@ mod sheet;
 mod soundness;
 mod step;
 mod system;
+mod tally;
 mod view;
 
+pub use class::{class_output, read_sheet, NAMES_LIMIT, NAME_LIMIT};
 pub use message::{GroupIndex, Message, Proposal, LAST_INDEX};
 pub use process::{Process, POSITIONS};
 pub use refusal::{number, Outcome, Refusal};
-pub use settle::{at_rest, settle, settle_within, Ending, Settling, BUDGET};
+pub use settle::{at_rest, settle, settle_told, settle_within, Ending, Settling, BUDGET};
 pub use sheet::{run_sheet, SHEET_LIMIT};
 pub use soundness::sound;
-pub use step::{crash, receive, report, respond, Action, Step};
+pub use step::{crash, receive, report, respond, Action, Event, Step};
 pub use system::{fresh, Channel, System, CAPACITY, MAX_PROCESSES};
+pub use tally::{tally_sheet, Tally};
 pub use view::{ProcessId, View};

@@ -6,7 +6,7 @@
 
 use crate::refusal::{Outcome, Refusal};
 use crate::soundness::sound;
-use crate::step::{Action, Step};
+use crate::step::{Action, Event, Step};
 use crate::system::System;
 
 /// "On any sound table it stops after 7,936 steps done at the latest".
@@ -38,6 +38,11 @@ pub fn settle(system: &mut System) -> Settling {
 /// The same with another budget, since no sound system is known that uses up
 /// the papers' one.
 pub fn settle_within(system: &mut System, budget: usize) -> Settling {
+    settle_told(system, budget, &mut Vec::new())
+}
+
+/// The same; what its steps do comes after what was told before.
+pub fn settle_told(system: &mut System, budget: usize, told: &mut Vec<Event>) -> Settling {
     // "An unsound table gives 1 and 0 steps." The papers leave the third answer
     // free there; "held up is everything else".
     if !sound(system) {
@@ -47,7 +52,7 @@ pub fn settle_within(system: &mut System, budget: usize) -> Settling {
     loop {
         let before = steps;
         for action in round(system) {
-            if steps < budget && action.run(system).is_ok() {
+            if steps < budget && Step::from(action).run_told(system, told).is_ok() {
                 steps += 1;
             }
         }

@@ -1,8 +1,8 @@
 //! The trainee's sheet: its lines, its run and what is printed.
 
 use crate::refusal::{number, Outcome, Refusal};
-use crate::settle::{settle, Ending, Settling};
-use crate::step::{Action, Step};
+use crate::settle::{settle_told, Ending, Settling, BUDGET};
+use crate::step::{Action, Event, Step};
 use crate::system::{fresh, System};
 use crate::view::{ProcessId, View};
 use std::collections::BTreeMap;
@@ -13,50 +13,68 @@ pub const SHEET_LIMIT: usize = 60_000;
 
 /// Runs a sheet and gives what is printed for it.
 pub fn run_sheet(sheet: &[u8]) -> Vec<u8> {
-    printed(sheet).into_bytes()
+    run(sheet).printed.into_bytes()
 }
 
-fn printed(sheet: &[u8]) -> String {
+/// The run of a sheet.
+pub(crate) struct Run {
+    /// What is printed for it.
+    pub printed: String,
+    /// The system after the last line, if there is one.
+    pub system: Option<System>,
+    /// What its steps did, those of settling runs too.
+    pub told: Vec<Event>,
+}
+
+/// Runs a sheet.
+pub(crate) fn run(sheet: &[u8]) -> Run {
+    let mut run = Run { printed: String::new(), system: None, told: Vec::new() };
     // "A long sheet prints the single line `0 9`."
     if sheet.len() > SHEET_LIMIT {
-        return outcome_line(0, Err(Refusal::LongSheet));
+        run.printed = outcome_line(0, Err(Refusal::LongSheet));
+        return run;
     }
     let lines = lines(sheet);
     // "an empty sheet prints nothing"
     let Some(first) = lines.first() else {
-        return String::new();
+        return run;
     };
-    let mut out = String::new();
     match first_lines().get(*first) {
         Some(n) => {
             let (_, mut system) = fresh(*n);
+            let told = &mut run.told;
             for (line, line_number) in lines.iter().zip(1..).skip(1) {
-                out += &match later_lines().get(*line) {
-                    Some(Later::Step(step)) => outcome_line(line_number, step.run(&mut system)),
-                    Some(Later::Settle) => settling_line(line_number, settle(&mut system)),
+                run.printed += &match later_lines().get(*line) {
+                    Some(Later::Step(step)) => {
+                        outcome_line(line_number, step.run_told(&mut system, told))
+                    }
+                    Some(Later::Settle) => {
+                        settling_line(line_number, settle_told(&mut system, BUDGET, told))
+                    }
                     None => bad_line(line_number, column(later_lines(), line)),
                 };
             }
             for p in system.everyone().members() {
-                out += &process_line(&system, p);
+                run.printed += &process_line(&system, p);
             }
+            run.system = Some(system);
         }
         // "Anything else, an empty line too, is refusal 8; if the first line
         // is, so is every line after it." S-1: "Each line after a bad first
         // line has column 0."
         None => {
-            out += &bad_line(1, column(first_lines(), first));
+            run.printed += &bad_line(1, column(first_lines(), first));
             for line_number in 2..=lines.len() {
-                out += &bad_line(line_number, 0);
+                run.printed += &bad_line(line_number, 0);
             }
         }
     }
-    out
+    run
 }
 
 /// "Lines end with a line feed, which the last may lack."
-fn lines(sheet: &[u8]) -> Vec<&[u8]> {
-    let mut lines: Vec<&[u8]> = sheet.split(|byte| *byte == b'\n').collect();
+pub(crate) fn lines(text: &[u8]) -> Vec<&[u8]> {
+    let mut lines: Vec<&[u8]> = text.split(|byte| *byte == b'\n').collect();
     if lines.last().is_some_and(|last| last.is_empty()) {
         lines.pop();
     }

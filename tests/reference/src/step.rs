@@ -76,15 +76,42 @@ impl Action {
     }
 }
 
+/// What a step done does to PropOut and to messages, one thing after another;
+/// S-7 counts from these.
+#[derive(Clone, Copy, Debug, PartialEq, Eq)]
+pub enum Event {
+    /// PropOut of p rises to this index.
+    Proposed { p: ProcessId, index: GroupIndex },
+    /// A message goes to a process; if that has crashed, it vanishes.
+    Sent { from: ProcessId, to: ProcessId, message: Message, vanishes: bool },
+    /// A message is received.
+    Taken { from: ProcessId, at: ProcessId, message: Message },
+    /// A message that waited is cleared, since its receiver stops.
+    Cleared { from: ProcessId, at: ProcessId, message: Message },
+}
+
 impl Step {
     /// Does the step. "A refused step returns the table it was handed."
     pub fn run(self, system: &mut System) -> Outcome {
-        *system = self.next(system)?;
+        self.run_told(system, &mut Vec::new())
+    }
+
+    /// The same; what it does comes after what was told before. A refused
+    /// step tells nothing.
+    pub fn run_told(self, system: &mut System, told: &mut Vec<Event>) -> Outcome {
+        let (after, events) = self.next_told(system)?;
+        *system = after;
+        told.extend(events);
         Ok(())
     }
 
     /// The next system; or "the lowest number that applies".
     pub fn next(self, system: &System) -> Result<System, Refusal> {
+        self.next_told(system).map(|(after, _)| after)
+    }
+
+    /// The next system, and what the step does.
+    fn next_told(self, system: &System) -> Result<(System, Vec<Event>), Refusal> {
         let Step { action, cut } = self;
         let (actor, other) = match action {
             Action::Report { p, .. } | Action::Crash { p } => (p, p),
@@ -95,13 +122,14 @@ impl Step {
         refuse_if(!sound(system), Refusal::Unsound)?;
         refuse_if(!known(actor) || !known(other), Refusal::Stranger)?;
         refuse_if(system.process(actor).crashed, Refusal::Crashed)?;
-        let after = system.clone();
-        match action {
-            Action::Report { p, view } => reported(after, p, view, cut),
-            Action::Receive { from, at } => received(after, from, at, cut),
-            Action::Respond { p, to } => responded(after, p, to, cut),
-            Action::Crash { p } => silent(crashed(after, p), cut),
-        }
+        let (after, mut told) = (system.clone(), Vec::new());
+        let after = match action {
+            Action::Report { p, view } => reported(after, p, view, cut, &mut told),
+            Action::Receive { from, at } => received(after, from, at, cut, &mut told),
+            Action::Respond { p, to } => responded(after, p, to, cut, &mut told),
+            Action::Crash { p } => silent(crashed(after, p, &mut told), cut),
+        }?;
+        Ok((after, told))
     }
 }
 
@@ -116,6 +144,7 @@ fn reported(
     p: ProcessId,
     view: View,
     cut: Option<u8>,
+    told: &mut Vec<Event>,
 ) -> Result<System, Refusal> {
     let odd = !view.is_subset(after.everyone()) || !view.contains(p);
     refuse_if(odd, Refusal::OddView)?;
@@ -154,7 +183,8 @@ fn reported(
     process.propout = index;
     process.proposal = view;
     process.acks = View::EMPTY;
-    sent(after, p, view, Message::Propose(Proposal { view, index }), cut)
+    told.push(Event::Proposed { p, index });
+    sent(after, p, view, Message::Propose(Proposal { view, index }), cut, told)
 }
 
 fn received(
@@ -162,10 +192,12 @@ fn received(
     q: ProcessId,
     p: ProcessId,
     cut: Option<u8>,
+    told: &mut Vec<Event>,
 ) -> Result<System, Refusal> {
     refuse_if(after.channel(q, p).is_empty(), Refusal::NothingThere)?;
     // "The oldest message on the line from q to p comes off."
     let message = after.channel_mut(q, p).remove(0);
+    told.push(Event::Taken { from: q, at: p, message });
     let process = after.process_mut(p);
     match message {
         // "recorded as q's proposal in place of any earlier one from q"
@@ -185,7 +217,8 @@ fn received(
             process.propout = new;
             process.acks = View::EMPTY;
             let view = process.view;
-            sent(after, p, view, Message::Propose(Proposal { view, index: new }), cut)
+            told.push(Event::Proposed { p, index: new });
+            sent(after, p, view, Message::Propose(Proposal { view, index: new }), cut, told)
         }
         // "if i is PropOut, q is marked as acknowledged. Then, stale or not,
         // if the last proposed view is not empty and all its units are
@@ -200,7 +233,7 @@ fn received(
                 return silent(after, cut);
             }
             process.acks = View::EMPTY;
-            sent(after, p, view, Message::Commit(Proposal { view, index }), cut)
+            sent(after, p, view, Message::Commit(Proposal { view, index }), cut, told)
         }
         // "position i at p becomes that view"
         Message::Commit(Proposal { view, index }) => {
@@ -215,6 +248,7 @@ fn responded(
     p: ProcessId,
     q: ProcessId,
     cut: Option<u8>,
+    told: &mut Vec<Event>,
 ) -> Result<System, Refusal> {
     let process = after.process_mut(p);
     // "p has a recorded proposal from q whose view equals p's local view." S-1:
@@ -235,15 +269,17 @@ fn responded(
         process.next = GroupIndex(index.0 + 1);
         Message::Acc(index)
     };
-    sent(after, p, View::only(q), reply, cut)
+    sent(after, p, View::only(q), reply, cut, told)
 }
 
 /// "p is stopped for good. Every line towards p is emptied; lines from p
 /// keep their messages."
-fn crashed(mut after: System, p: ProcessId) -> System {
+fn crashed(mut after: System, p: ProcessId, told: &mut Vec<Event>) -> System {
     after.process_mut(p).crashed = true;
     for q in after.everyone().members() {
-        after.channel_mut(q, p).clear();
+        for message in after.channel_mut(q, p).drain(..) {
+            told.push(Event::Cleared { from: q, at: p, message });
+        }
     }
     after
 }
@@ -263,6 +299,7 @@ fn sent(
     to: View,
     message: Message,
     cut: Option<u8>,
+    told: &mut Vec<Event>,
 ) -> Result<System, Refusal> {
     let mut addressees: Vec<ProcessId> = to.members().collect();
     if let Some(k) = cut.map(usize::from) {
@@ -270,10 +307,12 @@ fn sent(
         addressees.truncate(k);
     }
     for q in addressees {
-        if !after.process(q).crashed {
+        let vanishes = after.process(q).crashed;
+        told.push(Event::Sent { from: p, to: q, message, vanishes });
+        if !vanishes {
             refuse_if(after.channel(p, q).len() == CAPACITY, Refusal::ChannelFull)?;
             after.channel_mut(p, q).push(message);
         }
     }
-    Ok(if cut.is_some() { crashed(after, p) } else { after })
+    Ok(if cut.is_some() { crashed(after, p, told) } else { after })
 }

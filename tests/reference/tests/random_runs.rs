@@ -219,6 +219,50 @@ fn quiet_is_agreed() {
     assert!(views > 1000 && stopped > 50, "{views} {stopped}");
 }
 
+/// S-7: "it must follow that sent equals taken plus waiting plus lost", after
+/// each step; and no proposal is committed by two broadcasts, so that to count
+/// these is to count proposals.
+#[test]
+fn tallies_from_fresh() {
+    let mut dice = Dice { state: 0x7a11e5, reports: 0 };
+    let mut all = Tally::default();
+    for run in 0..400 {
+        let n = 1 + (run % 8) as u8;
+        dice.reports = [5, 15, 40][run % 3];
+        let (mut now, mut told, mut broadcasts) = (system(n), Vec::new(), 0);
+        for _ in 0..120 {
+            let action = dice.likely_step(&now);
+            let step =
+                if dice.roll(20) == 0 { action.cut(dice.roll(3)) } else { Step::from(action) };
+            let before = told.len();
+            if dice.roll(80) == 0 {
+                settle_told(&mut now, dice.roll(100).into(), &mut told);
+            } else if step.run_told(&mut now, &mut told).is_err() {
+                assert_eq!(told.len(), before);
+            }
+            let mut last = None;
+            for event in &told[before..] {
+                let commit = match *event {
+                    Event::Sent {
+                        from, message: Message::Commit(Proposal { index, .. }), ..
+                    } => Some((from, index)),
+                    _ => None,
+                };
+                broadcasts += usize::from(commit.is_some() && commit != last);
+                last = commit;
+            }
+            let tally = Tally::of(&told, Some(&now));
+            assert_eq!(tally.sent, tally.taken + tally.waiting + tally.lost);
+            assert_eq!(tally.committed, broadcasts);
+            assert!(tally.committed <= tally.proposals);
+        }
+        all.add(Tally::of(&told, Some(&now)));
+    }
+    let Tally { taken, waiting, lost, proposals, committed, .. } = all;
+    assert!(taken > 9_000 && waiting > 1_000 && lost > 400, "{all:?}");
+    assert!(proposals > 3_000 && committed > 400, "{all:?}");
+}
+
 /// Some bytes of the image, changed.
 fn damage(dice: &mut Dice, image: &mut Image) {
     for _ in 0..dice.roll(6) {

@@ -15,7 +15,7 @@ returns-2 : tie.Need-returns-2
 unfolding obeyed
 returns-2 c =
     let sound = sym (c .before .before .before .before .before .before .before .before .before .pre) ∙ c .before .before .before .before .if1 .taken in
-    let a = c .before .before .attempt .ensures in
+    let a = c .before .before .attempt .ensures .0 in
     (record { outcome = a .steps sound .outcome ∙ sym (ap (obeyed _) (c .before .before .before .before .before .before .order .given .1)); kept = a .gives .kept }, c .before .before .before .before .if1 .taken ∙ sym (a .stays sound))
 
 returns-3 : tie.Need-returns-3

@@ -10,10 +10,11 @@ use Rattle.run.proofs.run_settle.Tie as tie
 returns : tie.Need-returns
 unfolding lineDone settledAs
 returns c =
-    let run = c .before .before .before .before .before .before .before .before .before .before .before .settle .ensures in (
+    let run = c .before .before .before .before .before .before .before .before .before .before .before .before .settle .ensures in (
       rw (← run .outcome) (in-turn _ _ _ _ _ (c .before .before .before .before .before .before .put-three-numbers .ensures) (c .before .before .put-ending .ensures)),
       ap (λ (o : Settled). o .system) (run .outcome),
-      run .stays (c .before .before .before .before .before .before .before .before .before .before .before .before .before .before .before .pre),
+      run .stays (c .before .before .before .before .before .before .before .before .before .before .before .before .before .before .before .before .pre),
+      run .tally,
     )
 
 pub run-settle-spec : {M : Type 1} → statement M

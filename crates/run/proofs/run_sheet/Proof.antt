@@ -1,70 +1,10 @@
--- `run::run_sheet`: by how the sheet begins.
-use mathlib.Core.Path.{sym, _∙_}
+-- `run::run_sheet`: the text alone.
 use borrow.Author.Needs.{needs}
-use Rattle.print.specs.Text.{bytes}
-use Rattle.print.specs.Page.{typed}
-use Rattle.sheet.proofs.Laws.{Cut, line-found, end-found}
-use Rattle.sheet.specs.Parse.{meaningFirst}
-use Rattle.view.specs.Logic.{at}
-use Rattle.run.specs.Output.{badLine, startedBy}
-use Rattle.run.proofs.Laws.{output-long, output-none, output-begins, started-size}
 use Rattle.run.proofs.run_sheet.Statement.{statement}
 use Rattle.run.proofs.run_sheet.Tie as tie
 
 returns : tie.Need-returns
-unfolding bytes
-returns c = rw (output-long _ (c .before .before .before .before .before .if1 .taken)) (c .before .before .put-text .ensures)
-
--- the first line
-cut : (c : tie.After-known-told) → Cut (c .before .before .before .before .before .before .before .args .sheet .now) 0 (c .before .start .given .0 .0) (c .before .start .given .0 .1 .0) (c .before .start .given .0 .1 .1 .0)
-cut c = line-found _ _ _ _ _ (sym (c .before .before .before .read-line .ensures) ∙ c .before .start .given .1)
-
-run-fresh-requires : tie.Need-run-fresh-requires
-run-fresh-requires c κs =
-    let size = c .before .before in
-    let first = size .before .before in
-    (started-size _ _ _ (first .parse-first .ensures) (size .n .given .1), first .before .before .before .before .before .before .if1 .left)
-
-returns-2 : tie.Need-returns-2
-unfolding typed
-returns-2 c = rw (output-none _ (c .before .before .before .if1 .left) (end-found _ _ (sym (c .before .before .read-line .ensures) ∙ c .enum-told .given .1)))
-
-returns-3 : tie.Need-returns-3
-unfolding startedBy badLine meaningFirst at
-returns-3 c =
-    let size = c .before .before .before .before .before in
-    let first = size .before .before in
-    let known = first .before .before in
-    rw (output-begins _ _ _ _ _ (known .before .before .before .before .if1 .left) (cut known) (first .parse-first .ensures), size .n .given .1) (c .before .before .run-fresh .ensures)
-
-returns-4 : tie.Need-returns-4
-returns-4 c =
-    let bad = c .before .before .before .before .before in
-    let first = bad .before .before in
-    let known = first .before .before in
-    rw (output-begins _ _ _ _ _ (known .before .before .before .before .if1 .left) (cut known) (first .parse-first .ensures), bad .column .given .1) (c .before .before .all-bad .ensures)
+returns c = c .before .before .tally-sheet .ensures .0
 
 pub run-sheet-spec : {M : Type 1} → statement M
-run-sheet-spec =
-    tie.close
-    (tie.spec
-    (λ c. search needs)
-    (λ c κs. search needs)
-    (λ c. search needs)
-    returns
-    (λ c κs. search needs)
-    (λ c. search needs)
-    (λ c. search needs)
-    (λ c. cut c .ordered)
-    (λ c. cut c .ordered)
-    (λ c. cut c .within)
-    (λ c κs. search needs)
-    (λ c. search needs)
-    run-fresh-requires
-    (λ c. search needs)
-    (λ c κs. search needs)
-    returns-2
-    (λ c. search needs)
-    returns-3
-    (λ c. search needs)
-    returns-4)
+run-sheet-spec = tie.close (tie.spec (λ c κs. search needs) (λ c. search needs) returns)

@@ -12,11 +12,11 @@ use Rattle.settle.proofs.half_round.Statement.{statement}
 use Rattle.settle.proofs.half_round.Tie as tie
 
 abbrev Inv-loop : tie.InvT-loop
-Inv-loop image₀ budget steps h n count₀ p₀ image count p =
-    (p ≤ n) × (length image ≡ length image₀) × Advances budget (eachUpTo p (triedAt budget h n)) steps image₀ count image
+Inv-loop image₀ budget h n count₀ p₀ image count p =
+    (p ≤ n) × (length image ≡ length image₀) × Advances budget (eachUpTo p (triedAt budget h n)) count₀ image₀ count image
 
 abbrev μ-loop : tie.MeasureT-loop
-μ-loop image₀ budget steps h n count₀ p₀ image count p = n - p
+μ-loop image₀ budget h n count₀ p₀ image count p = n - p
 
 loop-holds : tie.Need-loop-holds Inv-loop μ-loop
 unfolding eachUpTo

@@ -17,16 +17,16 @@ copy-requires c κs = omega (arith, sound-long _ (c .before .before .before .pre
 
 round-requires : tie.Need-round-requires
 round-requires c κs =
-    let b = c .before .before .before .before .before .before in
-    subst (λ (l : List ℕ). soundSystem (systemIn l) ≡ true) (sym (copy-whole _ _ _ (sound-long _ (b .pre .0) ∙ sym (c .before .before .before .before .image-buffer .ensures)) (c .before .before .copy .ensures .1))) (b .pre .0)
+    let b = c .before .before .before .before .before .before .before in
+    subst (λ (l : List ℕ). soundSystem (systemIn l) ≡ true) (sym (copy-whole _ _ _ (sound-long _ (b .pre .0) ∙ sym (c .before .before .before .before .before .image-buffer .ensures)) (c .before .before .before .copy .ensures .1))) (b .pre .0)
 
 returns : tie.Need-returns
 returns c =
-    let b = c .before .before .before .before .before .before .before .before in
-    let same = copy-whole _ _ _ (sound-long _ (b .pre .0) ∙ sym (c .before .before .before .before .before .before .image-buffer .ensures)) (c .before .before .before .before .copy .ensures .1) in
-    round-tells _ _ _ _ _ (b .pre .1) same (c .before .round .ensures)
+    let b = c .before .before .before .before .before .before .before .before .before .before in
+    let same = copy-whole _ _ _ (sound-long _ (b .pre .0) ∙ sym (c .before .before .before .before .before .before .before .before .image-buffer .ensures)) (c .before .before .before .before .before .before .copy .ensures .1) in
+    round-tells _ _ _ _ _ _ (c .before .before .before .nothing-done .ensures) (b .pre .1) same (c .before .before .round .ensures)
 
 pub nothing-to-do-spec : {M : Type 1} → statement M
 nothing-to-do-spec =
     tie.close
-    (tie.spec (λ c κs. search needs) (λ c. search needs) copy-requires (λ c. search needs) round-requires returns)
+    (tie.spec (λ c κs. search needs) (λ c. search needs) copy-requires (λ c. search needs) (λ c κs. search needs) round-requires returns)

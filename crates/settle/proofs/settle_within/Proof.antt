@@ -13,10 +13,10 @@ ending-of-requires c κs = c .before .before .before .rounds .ensures .stays
 
 returns : tie.Need-returns
 returns c =
-    run-settles _ _ _ _ _ _ (sym (c .before .before .before .before .before .before .before .before .before .sound .ensures) ∙ c .before .before .before .before .before .before .before .before .if1 .taken) (c .before .before .before .before .before .before .size .ensures) (c .before .before .before .before .rounds .ensures) (c .ending-of .ensures)
+    run-settles _ _ _ _ _ _ (sym (c .before .before .before .before .before .before .before .before .before .before .sound .ensures) ∙ c .before .before .before .before .before .before .before .before .before .if1 .taken) (c .before .before .before .before .before .before .before .size .ensures) (c .before .before .before .before .before .rounds .ensures) (c .before .ending-of .ensures)
 
 returns-2 : tie.Need-returns-2
-returns-2 c = unsound-settles _ _ (sym (c .before .sound .ensures) ∙ c .if1 .left)
+returns-2 c = unsound-settles _ _ _ (c .none .ensures) (sym (c .before .before .sound .ensures) ∙ c .before .if1 .left)
 
 pub settle-within-spec : {M : Type 1} → statement M
 settle-within-spec =
@@ -26,6 +26,7 @@ settle-within-spec =
     (λ c κs. search needs)
     rounds-requires
     ending-of-requires
+    (λ c κs. search needs)
     (λ c. search needs)
     returns
     (λ c. search needs)

@@ -12,11 +12,11 @@ use Rattle.settle.proofs.try_at.Statement.{statement}
 use Rattle.settle.proofs.try_at.Tie as tie
 
 abbrev Inv-loop : tie.InvT-loop
-Inv-loop image₀ budget steps h n p count₀ q₀ image count q =
-    (q ≤ n) × (length image ≡ length image₀) × Advances budget (eachUpTo q (triedWith budget h (p .0))) steps image₀ count image
+Inv-loop image₀ budget h n p count₀ q₀ image count q =
+    (q ≤ n) × (length image ≡ length image₀) × Advances budget (eachUpTo q (triedWith budget h (p .0))) count₀ image₀ count image
 
 abbrev μ-loop : tie.MeasureT-loop
-μ-loop image₀ budget steps h n p count₀ q₀ image count q = n - q
+μ-loop image₀ budget h n p count₀ q₀ image count q = n - q
 
 loop-holds : tie.Need-loop-holds Inv-loop μ-loop
 unfolding eachUpTo

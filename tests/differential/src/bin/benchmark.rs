@@ -1,5 +1,6 @@
 //! The proved library and its rival side by side, in one run: whole sheets, single steps through the
-//! image, lists of steps, and settling runs. Nothing is judged.
+//! image, lists of steps, and settling runs. Nothing is judged. With two arguments also the tally
+//! programs that they name: the proved one and the reference's.
 
 use differential::dice::Dice;
 use differential::lines::line;
@@ -8,8 +9,13 @@ use differential::rival::{self, rival_step};
 use lobstercreel as ours;
 use reference::image::{decode, encode, Image};
 use reference::{Action, ProcessId, Step, System, View};
+use std::ffi::OsStr;
+use std::fs::{self, File};
 use std::hint::black_box;
+use std::path::Path;
+use std::process::{self, Command};
 use std::time::{Duration, Instant};
+use std::{array, env};
 
 /// How long each figure's rounds go on.
 const PATIENCE: Duration = Duration::from_millis(800);
@@ -32,6 +38,9 @@ image read, tested and written once, and each step's number. Of a settling run: 
 tried in vain and its ending.
 refused: lines with another number than 0. quiet: reports that only change a local view.
 A history ends at position 32: after some hundred lines a sheet has little else left.
+Of a class: both are programs, started and waited for, with the sheets in the system's cache; the
+other is the reference, which is not tuned. The library alone runs the same sheets in this process:
+it prints all their lines and counts nothing.
 ";
 
 fn main() {
@@ -67,6 +76,11 @@ fn main() {
     let each: Vec<Action> = all.members().flat_map(|p| eight(p, not_below(p))).collect();
     settling("each p has proposed p to 8, 8 times", &each);
     settling("fresh, nothing to do", &[]);
+    let programs: Vec<_> = env::args_os().skip(1).collect();
+    if let [ours, reference] = &programs[..] {
+        println!();
+        class(ours, reference);
+    }
 }
 
 fn heading(what: &str) {
@@ -272,6 +286,57 @@ fn settling(what: &str, before: &[Action]) {
     let each = |time: Duration| 1e6 * time.as_secs_f64() / TIMES as f64;
     let ratio = each(ours) / each(rival);
     println!("{what:<37} {steps:>8} {:>10.1} {:>10.1} {ratio:>6.2}", each(ours), each(rival));
+}
+
+/// The tally programs on a class of 64 sheets of 1,000 lines, eight of each size.
+fn class(ours: &OsStr, reference: &OsStr) {
+    const TIMES: usize = 5;
+    let folder = env::temp_dir().join(format!("class-{}", process::id()));
+    fs::create_dir_all(&folder).expect("a new folder");
+    let sheets: [String; 8] = array::from_fn(|at| {
+        let n = at as u8 + 1;
+        let lines = busy_run(n, 1_000).into_iter().map(|(_, step)| line(step) + "\n");
+        format!("u {n}\n") + &lines.collect::<String>()
+    });
+    for (name, sheet) in (1..).zip(&sheets) {
+        fs::write(folder.join(name.to_string()), sheet).expect("a new file");
+    }
+    let names: String = (0..64).map(|at| format!("{}\n", 1 + at % 8)).collect();
+    fs::write(folder.join("names"), &names).expect("a new file");
+    let wanted = reference::class_output(names.as_bytes(), |name| {
+        Some(sheets[usize::from(name[0] - b'1')].clone().into_bytes())
+    });
+    let mut best = [Duration::MAX; 3];
+    for _ in 0..TIMES {
+        best[0] = best[0].min(tallied(ours, &folder, &wanted));
+        best[1] = best[1].min(tallied(reference, &folder, &wanted));
+        let mut out = zeros(100_000);
+        let start = Instant::now();
+        for sheet in sheets.iter().cycle().take(64) {
+            black_box(ours::run_sheet_into(sheet.as_bytes(), &mut out));
+        }
+        best[2] = best[2].min(start.elapsed());
+    }
+    fs::remove_dir_all(&folder).expect("its own folder");
+    let [ours, reference, library] = best.map(|time| 1e3 * time.as_secs_f64());
+    println!(
+        "a class of 64 sheets of 1,000 lines{:>11} {:>14}  ratio",
+        "tally, ms", "reference, ms"
+    );
+    println!("{ours:>46.1} {reference:>14.1} {:>6.3}", ours / reference);
+    println!("the library alone, running the same sheets: {library:.1} ms");
+}
+
+/// The time of a program's run.
+fn tallied(program: &OsStr, folder: &Path, wanted: &[u8]) -> Duration {
+    let program = fs::canonicalize(program).expect("a program");
+    let names = File::open(folder.join("names")).expect("the names");
+    let mut command = Command::new(program);
+    let start = Instant::now();
+    let run = command.current_dir(folder).stdin(names).output().expect("a run");
+    let time = start.elapsed();
+    assert!(run.stdout == wanted, "another output than the reference's");
+    time
 }
 
 /// One call with a list of steps, from a fresh image.

@@ -4,12 +4,12 @@
 
 use differential::dice::Dice;
 use differential::faults::{DAMAGES, FAULTS};
-use differential::lines::{any_bytes, bad, line, FIRST, LATER};
 use differential::litter::litter;
 use differential::our_step;
 use differential::poised::{disturb, poise};
 use differential::rival;
 use differential::settled::{crowd, jam, race, rivals, settling_way, Turn};
+use differential::sheets::{line_count, written, Sheet};
 use differential::ways::{way, By, Ways, AT_LEAST};
 use lobstercreel as ours;
 use reference::image::{decode, encode, Image, SIZE};
@@ -405,131 +405,6 @@ fn wrong_lengths(ways: &mut Ways) {
         assert!(memory == before, "length {length}");
         ways.count(By::Image, "1 wrong length");
     }
-}
-
-/// A sheet; its processes, if its first line is good; and each line's way and what is printed after the
-/// line's number.
-#[derive(Default)]
-struct Sheet {
-    text: Vec<u8>,
-    n: Option<u8>,
-    lines: Vec<(&'static str, String)>,
-}
-
-impl Sheet {
-    fn add(&mut self, line: &[u8], way: &'static str, told: String) {
-        self.text.extend(line);
-        self.text.push(b'\n');
-        self.lines.push((way, told));
-    }
-
-    /// A bad line with its column.
-    fn add_bad(&mut self, line: &[u8], way: &'static str, column: usize) {
-        self.add(line, way, format!("8 {column}"));
-    }
-
-    /// The line of a settling run, which the system makes too.
-    fn add_settling(&mut self, system: &mut System) {
-        let before = system.clone();
-        let settling = reference::settle(system);
-        let word = match settling.ending {
-            Ending::Rest => "rest",
-            Ending::Held => "held",
-            Ending::Budget => "budget",
-        };
-        let told = format!("{} {} {word}", number(settling.outcome), settling.steps);
-        self.add(b"q", settling_way(&before, settling, system), told);
-    }
-
-    /// The line of a step, which the system makes too.
-    fn add_step(&mut self, step: Step, system: &mut System) {
-        let before = system.clone();
-        let number = number(step.run(system));
-        self.add(line(step).as_bytes(), way(&before, step, number), number.to_string());
-    }
-}
-
-/// No line says that a stop is cut.
-fn on_a_sheet(step: Step) -> Step {
-    match step.action {
-        Action::Crash { .. } => step.action.into(),
-        _ => step,
-    }
-}
-
-/// A sheet by chance, of mostly good lines.
-fn written(dice: &mut Dice, n: u8) -> Sheet {
-    let mut sheet = Sheet::default();
-    let lines = if dice.one_in(100) { 6_000 + dice.roll(5_000) } else { dice.roll(300) };
-    if dice.one_in(12) {
-        let (kind, first, column) = bad(dice, FIRST);
-        sheet.add_bad(&first, kind, column);
-        if dice.one_in(2) {
-            sheet.add_bad(format!("u {n}").as_bytes(), "8 good first line too late", 0);
-        }
-        for _ in 0..lines {
-            let step = dice.any_step(n);
-            sheet.add_bad(line(step).as_bytes(), "8 after a bad first line", 0);
-        }
-    } else {
-        // A good first line is not printed, so this way is not counted.
-        sheet.n = Some(n);
-        sheet.add(format!("u {n}").as_bytes(), "", String::new());
-        let mut system = reference::fresh(n).1;
-        if dice.one_in(4) {
-            for step in dice.opening(n) {
-                sheet.add_step(step, &mut system);
-            }
-        }
-        // One sheet of three has settling runs.
-        let settles = dice.one_in(3) && lines < 6_000;
-        if settles && dice.one_in(2) {
-            let turns = if dice.one_in(3) { crowd(dice, n) } else { race(dice, n) };
-            for turn in turns.into_iter().chain([Turn::Settle]) {
-                match turn {
-                    Turn::Step(step) => sheet.add_step(step, &mut system),
-                    Turn::Settle => sheet.add_settling(&mut system),
-                }
-            }
-        }
-        let mix = dice.mix(n);
-        for _ in 0..lines {
-            if settles && dice.one_in(30) {
-                sheet.add_settling(&mut system);
-                continue;
-            }
-            match dice.roll(120) {
-                // Their column is not known here, but the reference's.
-                0 => sheet.add(&any_bytes(dice), "8 any bytes", "8 ?".into()),
-                1..=4 => {
-                    let (kind, line, column) = bad(dice, LATER);
-                    sheet.add_bad(&line, kind, column);
-                }
-                _ => sheet.add_step(on_a_sheet(dice.likely_step(&system, mix)), &mut system),
-            }
-        }
-    }
-    if dice.one_in(4) && !sheet.text.ends_with(b"\n\n") && sheet.text != b"\n" {
-        sheet.text.pop();
-    }
-    if dice.one_in(60) && sheet.text.len() < SHEET_LIMIT {
-        sheet.text.resize(SHEET_LIMIT + dice.pick(&[0, 1, 2, 100_000]), b'\n');
-        let empty = match sheet.n {
-            Some(_) => ("8 empty line", "8 1".into()),
-            None => ("8 after a bad first line", "8 0".into()),
-        };
-        sheet.lines.resize(line_count(&sheet.text), empty);
-    }
-    if dice.one_in(200) {
-        sheet = Sheet::default();
-    }
-    sheet
-}
-
-/// How many lines a text has, the last of which may lack its line feed.
-fn line_count(text: &[u8]) -> usize {
-    let ended = text.iter().filter(|byte| **byte == b'\n').count();
-    ended + usize::from(text.last().is_some_and(|byte| *byte != b'\n'))
 }
 
 /// A whole sheet: the outputs are the same, and so are they in a buffer of any room.

@@ -1,0 +1,4 @@
+pub mod Bounds
+pub mod Calls
+pub mod Claims
+pub mod Gathering

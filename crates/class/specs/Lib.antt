@@ -1,0 +1,4 @@
+-- What is printed for the sheets of a class.
+pub mod Class
+pub mod Examples
+pub mod Names

@@ -1,0 +1,3 @@
+-- The messages and proposals that a list of events counts.
+pub mod Traffic
+pub mod Examples
