@@ -66,7 +66,8 @@ enum {
     LOBSTERCREEL_NO_RECORD = 10,   /* answering with no recorded proposal */
     LOBSTERCREEL_OTHER_VIEW = 11,  /* answering a recorded proposal whose view is not the local view */
     LOBSTERCREEL_CUT_TOO_LATE = 12,/* the step would send no more messages than those after which it is cut */
-    LOBSTERCREEL_EARLY_TRUST = 13  /* the reported view brings back a unit whose own view has not lacked the reporting one meanwhile */
+    LOBSTERCREEL_EARLY_TRUST = 13, /* the reported view brings back a unit whose own view has not lacked the reporting one meanwhile */
+    LOBSTERCREEL_TOO_DEEP = 14     /* what the program `runs` prints for a depth above 8 or more than 2 units; no call answers it */
 };
 
 /* Writes the image of the fresh system of n units. 0; or 2 for an n outside 1 to 8, and then the image is that of a system of zero

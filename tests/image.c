@@ -136,6 +136,17 @@ static const char *digits(uint8_t view) {
     return text;
 }
 
+/* The refusal table, name by name, as the papers number it. */
+static void numbers_of_the_table(void) {
+    static const int table[] = {
+        LOBSTERCREEL_DONE,         LOBSTERCREEL_UNSOUND,      LOBSTERCREEL_STRANGER,     LOBSTERCREEL_STOPPED,
+        LOBSTERCREEL_ODD_VIEW,     LOBSTERCREEL_NOTHING_THERE, LOBSTERCREEL_HISTORY_FULL, LOBSTERCREEL_LINE_FULL,
+        LOBSTERCREEL_BAD_LINE,     LOBSTERCREEL_LONG_SHEET,   LOBSTERCREEL_NO_RECORD,    LOBSTERCREEL_OTHER_VIEW,
+        LOBSTERCREEL_CUT_TOO_LATE, LOBSTERCREEL_EARLY_TRUST,  LOBSTERCREEL_TOO_DEEP,
+    };
+    for (int k = 0; k < (int)(sizeof table / sizeof *table); k++) expect(table[k] == k, "refusal %d is called %d", k, table[k]);
+}
+
 /* The header's places cover the image, each byte once. */
 static void places(void) {
     static int times[LOBSTERCREEL_IMAGE];
@@ -674,6 +685,7 @@ static void run(unsigned seed) {
 
 int main(void) {
     memset(memory, MARK, sizeof memory);
+    numbers_of_the_table();
     places();
     lengths();
     fresh();

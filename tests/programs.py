@@ -81,9 +81,64 @@ def bench():
     check("the same, ended by the system", "bench", None, b"", pieces=[K1], stdout=closed_pipe(), status=-signal.SIGPIPE)
 
 
+# The program `runs`.
+
+# For one and two processes, the runs of depth 0 to 8; and how many of depth 8 end with an entry beyond position 1, which no shorter run
+# does. tests/reference has the same; document 02 has some of them.
+RUNS = {1: [1, 3, 4, 10, 16, 40, 71, 181, 335], 2: [1, 7, 11, 67, 148, 843, 2231, 12510, 36461]}
+ENTERED = {1: 2, 2: 124}
+
+
+def walked(n, depth):
+    """What is printed for `n depth`, one digit each: 2 comes before 14."""
+    if not 1 <= n <= 8:
+        return b"2\n"
+    if n > 2 or depth > 8:
+        return b"14\n"
+    return b"%d %d\n" % (RUNS[n][depth], ENTERED[n] if depth == 8 else 0)
+
+
+def runs():
+    for n in range(10):
+        for depth in range(10):
+            line = b"%d %d" % (n, depth)
+            check(f"{n} {depth}", "runs", walked(n, depth), pieces=[line + b"\n"])
+            check(f"{n} {depth} without its line feed", "runs", walked(n, depth), pieces=[line])
+
+    # Anything else is 8: too short, too long, and each byte that does not stand at its place.
+    other = b"8\n"
+    for line in [b"", b"\n", b"1", b"1\n", b"1 ", b"1 \n", b"12", b"1 8 ", b"1 8 \n", b"1 8x", b"1 8\n\n", b"1 8\n1 8\n", b"1 8\r\n", b"1 8\0"]:
+        check(f"{line}", "runs", other, pieces=[line])
+    for line in [b"1 10", b"10 1", b"01 1", b"1  8", b" 1 8", b"-1 8", b"1 -8", b"1,8", b"\n1 8", b"1\n8", b"1 8" * 10_000, bytes(range(256))]:
+        check(f"{line[:8]} and so on", "runs", other, pieces=[line])
+    for byte in set(range(256)) - set(b"0123456789"):
+        one = bytes([byte])
+        check(f"byte {byte} for N", "runs", other, pieces=[one + b" 1\n"])
+        check(f"byte {byte} for DEPTH", "runs", other, pieces=[b"1 " + one + b"\n"])
+    for byte in set(range(256)) - set(b" "):
+        check(f"byte {byte} between", "runs", other, pieces=[b"1" + bytes([byte]) + b"1\n"])
+    for byte in set(range(256)) - set(b"\n"):
+        check(f"byte {byte} at the end", "runs", other, pieces=[b"1 1" + bytes([byte])])
+
+    check("byte by byte", "runs", walked(1, 8), pieces=[b"1", b" ", b"8", b"\n"], pause=0.1)
+    check("the line feed late", "runs", walked(1, 8), pieces=[b"1 8", b"\n"], pause=0.3)
+    check("a second line late", "runs", other, pieces=[b"1 8\n", b"1 8\n"], pause=0.3)
+    check("a long input, its rest late", "runs", other, pieces=[b"1 8\n1", b"x" * 200_000], pause=0.3)
+    check("arguments, which it does not look at", "runs", walked(2, 8), pieces=[b"2 8"], args=["1", "0"])
+    check("the null device", "runs", other, stdin=os.open(os.devnull, os.O_RDONLY))
+
+    unread, unwritten = b"runs: the input cannot be read\n", b"runs: the output cannot be written\n"
+    check("a directory as input", "runs", b"", unread, stdin=os.open(".", os.O_RDONLY))
+    check("an input that cannot be read", "runs", b"", unread, stdin=os.open(os.devnull, os.O_WRONLY))
+    check("a full device as output", "runs", None, unwritten, pieces=[b"1 1"], stdout=os.open("/dev/full", os.O_WRONLY))
+    check("an output that cannot be written", "runs", None, unwritten, pieces=[b"x"], stdout=os.open(os.devnull, os.O_RDONLY))
+    check("a closed pipe as output", "runs", None, unwritten, pieces=[b"1 1"], stdout=closed_pipe(), sigpipe=False)
+
+
 def main():
     bench()
     tally()
+    runs()
     print(f"tests/programs: {results['passed']} checks hold, {results['failed']} do not")
     sys.exit(results["failed"] > 0)
 

@@ -10,11 +10,10 @@ use Rattle.system.specs.declared.Process.{Process}
 use Rattle.system.specs.declared.System.{System}
 use Rattle.system.specs.declared.Outcome.{Outcome}
 use Rattle.system.specs.Process.{entryAt}
-use Rattle.system.specs.System.{noProcess, variablesAt}
+use Rattle.system.specs.System.{noProcess, variablesAt, entryIn}
 use Rattle.system.specs.Fresh.{freshVariables, freshProcess, freshSystem, freshOf}
 use Rattle.step.proofs.Beginning.{each-fresh, empty-past-first, first-entry, no-entry, nothing-recorded, nothing-waits, fresh-shape}
 use Rattle.agreement.specs.Accepted.{accepted}
-use Rattle.agreement.specs.Book.{entryIn}
 use Rattle.agreement.specs.Demand.{start}
 use Rattle.agreement.proofs.Invariant.{Reached}
 

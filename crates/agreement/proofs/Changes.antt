@@ -15,13 +15,12 @@ use Rattle.system.specs.declared.Variables.{Variables}
 use Rattle.system.specs.declared.Process.{Process}
 use Rattle.system.specs.declared.System.{System}
 use Rattle.system.specs.Process.{entryAt, pendingAt}
-use Rattle.system.specs.System.{processAt, variablesAt}
+use Rattle.system.specs.System.{processAt, variablesAt, entryIn}
 use Rattle.plan.specs.declared.Change.{Change}
 use Rattle.plan.specs.Plan.{recording, noMessage}
 use Rattle.step.proofs.Cases.{afterwards, Effect}
 use Rattle.step.proofs.Effects.{Part, each-process, each-process-but, each-message, each-pending, each-entry}
 use Rattle.agreement.specs.Accepted.{Acceptance, accepted}
-use Rattle.agreement.specs.Book.{entryIn}
 use Rattle.agreement.proofs.Invariant.{Honest, Recorded, Own, Entered, Reached, Grown, Later, later-equal, own-later, entered-later, honest-later, recorded-later}
 
 -- ---- what a process may do

@@ -16,10 +16,10 @@ use Rattle.view.proofs.Laws.{and-intro, all-intro, all-elim, at-past, true-is-n
 use Rattle.system.specs.declared.Process.{Process}
 use Rattle.system.specs.declared.System.{System}
 use Rattle.system.specs.Process.{entryAt}
-use Rattle.system.specs.System.{noProcess, processAt}
+use Rattle.system.specs.System.{noProcess, processAt, entryIn}
 use Rattle.step.proofs.Beginning.{no-entry}
 use Rattle.agreement.specs.Accepted.{Acceptance, accepted}
-use Rattle.agreement.specs.Book.{entryIn, Agreement, Book, bookEntry, apart, apartFrom, admits, madeIn, fed, fedAll, noneRefused}
+use Rattle.agreement.specs.Book.{Agreement, Book, bookEntry, apart, apartFrom, admits, madeIn, fed, fedAll, noneRefused}
 use Rattle.step.proofs.Frames.{Numbered}
 use Rattle.agreement.proofs.Invariant.{Agreed, Reached}
 use Rattle.view.proofs.Sets.{has-none, has-with, with-new, with-old}

@@ -14,11 +14,10 @@ use Rattle.system.specs.declared.Pending.the-variants.{Nothing, Proposal}
 use Rattle.system.specs.declared.Variables.{Variables}
 use Rattle.system.specs.declared.System.{System}
 use Rattle.system.specs.Process.{pendingAt}
-use Rattle.system.specs.System.{processAt, variablesAt}
+use Rattle.system.specs.System.{processAt, variablesAt, entryIn}
 use Rattle.step.proofs.Frames.{Shape}
 use Rattle.step.proofs.Cases.{waitingAt}
 use Rattle.agreement.specs.Accepted.{Acceptance, accepted}
-use Rattle.agreement.specs.Book.{entryIn}
 
 -- a proposal (v, i) of a process whose variables are x: i is at most PropOut, and at PropOut the view is v*, unless v* is empty
 pub record Proposed (x : Variables) (v i : ℕ) : Type 0 where

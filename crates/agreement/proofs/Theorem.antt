@@ -16,11 +16,11 @@ use Rattle.system.specs.declared.History.{History}
 use Rattle.system.specs.declared.Process.{Process}
 use Rattle.system.specs.declared.System.{System}
 use Rattle.system.specs.Process.{entryAt, noEntries}
-use Rattle.system.specs.System.{noProcess, processAt}
+use Rattle.system.specs.System.{noProcess, processAt, entryIn}
 use Rattle.step.specs.Step.{Event, happened, ran}
 use Rattle.step.proofs.Outcomes.{ran-append}
 use Rattle.agreement.specs.Accepted.{Acceptance, acceptedIn}
-use Rattle.agreement.specs.Book.{entryIn, Agreement, Book, bookEntry, openedBook, fedAll}
+use Rattle.agreement.specs.Book.{Agreement, Book, bookEntry, openedBook, fedAll}
 use Rattle.agreement.specs.Demand.{start, Demand}
 use Rattle.agreement.proofs.Beginning.{start-reached, start-empty, start-first}
 use Rattle.agreement.proofs.Feed.{Feeding, InBook, Through, Fed, candidates, fed-through, madeAmong, made-not-refused, made-same-book, numbered-or-none}

@@ -9,17 +9,8 @@ use Rattle.view.specs.View.{has}
 use Rattle.system.specs.declared.History.{History}
 use Rattle.system.specs.declared.Process.{Process}
 use Rattle.system.specs.declared.System.{System}
-use Rattle.system.specs.Process.{entryAt, withEntry, noEntries}
-use Rattle.system.specs.System.{processAt}
+use Rattle.system.specs.Process.{entryAt, withEntry, noEntries, isWritten}
 use Rattle.agreement.specs.Accepted.{Acceptance, accepted}
-
--- "In the base, written means not empty."
-abbrev pub isWritten : ℕ → Bool
-isWritten v = not (eqb v 0)
-
--- the entry of process p at index i in a system
-unfoldable pub entryIn : System → ℕ → ℕ → ℕ
-entryIn s p i = entryAt (processAt s p .history) i
 
 pub record Agreement : Type 0 where
   pub view : ℕ

@@ -6,9 +6,11 @@ use mathlib.Core.List.{List, _++_}
 use Rattle.view.specs.View.{has}
 use Rattle.system.specs.declared.System.{System}
 use Rattle.system.specs.Fresh.{freshOf}
+use Rattle.system.specs.Process.{isWritten}
+use Rattle.system.specs.System.{entryIn}
 use Rattle.step.specs.Step.{Event, ran}
 use Rattle.agreement.specs.Accepted.{acceptedIn}
-use Rattle.agreement.specs.Book.{Agreement, isWritten, entryIn, bookEntry, openedBook, fedAll, noneRefused}
+use Rattle.agreement.specs.Book.{Agreement, bookEntry, openedBook, fedAll, noneRefused}
 
 abbrev pub start : ℕ → System
 start n = freshOf n .system

@@ -43,7 +43,7 @@ use Rattle.class.specs.Class.{Named, findingOf, addsOf, inAll}
 use Rattle.audit.specs.Audit.{EventsOf, ended, bad, step, settling, Accounted, SheetAccounted, Even, SheetEven, ClassEven, NotOverOne, SheetShare, ClassShare, NoOverflow}
 
 -- ---- the lines from number k on, on system s, where a was counted before them
-record Run (k : ℕ) (a : Tally) (s : System) (ls : List (List ℕ)) : Type 0 where
+record LinesCounted (k : ℕ) (a : Tally) (s : System) (ls : List (List ℕ)) : Type 0 where
   events : List Event
   happen : EventsOf s ls events
   tally : talliedFrom k a s ls ≡ capped (plus a (tallyOf s events))
@@ -76,9 +76,9 @@ nothing-more : (s : System) → tallyOf s [] ≡ stillWaiting s
 unfolding tallyOf eventsTally ran
 nothing-more s = none-plus (stillWaiting s)
 
-line-runs : (k : ℕ) (a : Tally) (s : System) (l : List ℕ) (ls : List (List ℕ)) → ((b : Tally) (t : System) → Run (suc k) b t ls) → (x : Line)
+line-runs : (k : ℕ) (a : Tally) (s : System) (l : List ℕ) (ls : List (List ℕ)) → ((b : Tally) (t : System) → LinesCounted (suc k) b t ls) → (x : Line)
     → parsed l ≡ x
-    → Run k a s (l ∷ ls)
+    → LinesCounted k a s (l ∷ ls)
 unfolding talliedFrom talliedThen lineDone answered settledAs eventsTally ran happened
 line-runs k a s l ls on (Bad column) e =
     let more = on (capped (plus a noTally)) s in
@@ -109,7 +109,7 @@ line-runs k a s l ls on Settle e =
       many = omega (arith, more .many, length-append (way .events) (more .events), way .moves .count, settled-steps 7936 s);
     }
 
-runs-on : (k : ℕ) (a : Tally) (s : System) (ls : List (List ℕ)) → Run k a s ls
+runs-on : (k : ℕ) (a : Tally) (s : System) (ls : List (List ℕ)) → LinesCounted k a s ls
 unfolding talliedFrom
 runs-on k a s [] =
     record { events = []; happen = ended; tally = ap (λ (y : Tally). capped (plus a y)) (sym (nothing-more s)); many = omega arith }

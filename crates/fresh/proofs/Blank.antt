@@ -5,6 +5,8 @@ use mathlib.Core.List.{List}
 use native.Mathlib.Decide.{decLe}
 use native.Mathlib.Nat.{lt-of-not-le}
 use native.Mathlib.Omega.{arith}
+use borrow.Author.Tests.{eq-eqb}
+use lib.Dec.{eqb}
 use lib.ListN.{length, getD, set, drop, replicate, length-set, List·getD-eq-default}
 use lib.Seq.{getD-drop, getD-set-same, getD-set-other}
 use Rattle.view.specs.Logic.{pick, eachUpTo, at, put}
@@ -98,3 +100,10 @@ blank-held b c n h f =
 pub all-fresh : (n : ℕ) → eachUpTo 8 (withFresh n) (blankSystem n) ≡ freshSystem n
 unfolding eachUpTo put at blankSystem withFresh withProcess processAt withVariables withHistory withEntry noProcess freshSystem freshProcess freshVariables
 all-fresh n = refl
+
+-- ---- bytes as many as an image has, once a fresh system is put into them
+pub fresh-in : (b c : List ℕ) (n : ℕ) → length b ≡ imageWidth
+    → systemIn c ≡ pick (eqb (length b) imageWidth) (freshSystem n) (systemIn b)
+    → systemIn c ≡ freshSystem n
+unfolding pick
+fresh-in b c n long put = put ∙ rw (eq-eqb (length b) imageWidth long)

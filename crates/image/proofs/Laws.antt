@@ -1,12 +1,12 @@
 -- Laws of rows of bytes: what is read of them, and what they are after a change of one.
 use Prim.Native.Nat.{ℕ, zero, suc, _+_, _*_, _≤_, _<_}
 use mathlib.Core.Path.{_≡_, refl, sym, _∙_, ap}
-use mathlib.Core.List.{List, [], _∷_, _++_}
+use mathlib.Core.List.{List, [], _∷_, _++_, append-nil}
 use mathlib.Core.Logic.{_⊎_, inr, ⊎-elim}
 use native.Mathlib.Nat.{add-comm, mul-suc, mul-zero, le-of-suc-le-suc, not-suc-le-zero}
 use native.Mathlib.Omega.{arith}
-use lib.ListN.{length, getD, set, drop, length-set}
-use lib.Seq.{getD-set-same, getD-set-other, getD-drop, drop-drop}
+use lib.ListN.{length, getD, set, take, drop, length-set}
+use lib.Seq.{getD-set-same, getD-set-other, getD-drop, drop-drop, take-length, drop-length}
 use borrow.Author.Tests.{eq-eqb, ne-eqb}
 use Rattle.view.specs.Logic.{pick, at, put, placeOf}
 use Rattle.view.proofs.Laws.{by-number, at-found, put-found, at-missing, put-missing}
@@ -155,3 +155,8 @@ one-filled s i g b c x f h e =
           (λ same. rw (same) (getD-set-same c (s + i) x 0 (omega (arith, f .long)) ∙ e))
           (λ other. getD-set-other c (s + i) (s + k) x 0 (λ d. other (omega arith)) ∙ f .inside k (omega arith));
     }
+
+-- ---- a copy of bytes into as many
+pub copy-whole : (from to after : List ℕ) → length from ≡ length to → after ≡ take (length from) from ++ drop (length from) to → after ≡ from
+copy-whole from to after long is =
+    is ∙ rw (take-length from, ap (λ (k : ℕ). drop k to) long, drop-length to) (append-nil from)

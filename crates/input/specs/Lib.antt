@@ -1,2 +1,2 @@
--- Reading a sheet whole.
+-- Reading an input whole.
 pub mod Received

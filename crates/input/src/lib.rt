@@ -1,4 +1,4 @@
-// Reading a sheet whole, and the buffers that a sheet and its output need.
+// Reading an input whole, and the buffers that a sheet and its output need.
 ghost use Prim.Native.Nat.{min, _+_, _≤_};
 ghost use mathlib.Core.Path.{_≡_};
 ghost use lib.ListN.{length};
@@ -93,4 +93,36 @@ pub fn read_input(fd: i32, buf: &mut [u8]) -> Input
         failed: false,
         len: done,
     }
+}
+
+// Turns enough for 4 GiB by full reads.
+const SKIP_LIMIT: u32 = 65_536;
+
+// Reads once more, and answers whether anything came.
+fn skip_some(fd: i32) -> bool {
+    let mut rest = io::large_buffer();
+    let got = libc::read(fd, &mut rest);
+    got > 0
+}
+
+// Reads the rest of an input that is too long, so that whoever writes it is not cut off. What comes is
+// dropped, and nothing is answered.
+fn skip_rest(fd: i32) {
+    for turn in 0..SKIP_LIMIT {
+        if !skip_some(fd) {
+            return;
+        }
+    }
+}
+
+// Reads an input to its end, as far as the buffer has room for it. Where the buffer is full, what is
+// left of the input is dropped.
+pub fn read_to_end(fd: i32, buf: &mut [u8]) -> Input
+    ensures { λ r. ⌜ Received (r .failed) (r .len) (now (buf .entry)) (now (buf .exit)) ⌝ }
+{
+    let input = read_input(fd, buf);
+    if input.len == buf.len() {
+        skip_rest(fd);
+    }
+    input
 }

@@ -56,6 +56,9 @@ pub twenty-digits : (k : ℕ) → AtMost 20 (decimal k)
 unfolding decimal
 twenty-digits k = all-digits 20 k
 
+pub decimal-length : (k : ℕ) → length (decimal k) ≤ 20
+decimal-length k = twenty-digits k .bytes-are
+
 -- a number of at most d + 1 digits
 few-digits : (d k : ℕ) → k < 10 ^ suc d → AtMost (suc d) (decimal k)
 unfolding decimal

@@ -11,11 +11,10 @@ use Rattle.system.specs.declared.Variables.{Variables}
 use Rattle.system.specs.declared.Process.{Process}
 use Rattle.system.specs.declared.System.{System}
 use Rattle.system.specs.Process.{entryAt}
-use Rattle.system.specs.System.{noProcess, variablesAt}
+use Rattle.system.specs.System.{noProcess, variablesAt, entryIn}
 use Rattle.system.specs.Fresh.{freshVariables, freshProcess, freshSystem}
 use Rattle.step.proofs.Beginning.{each-fresh, fresh-process, fresh-variables, first-entry}
 use Rattle.agreement.specs.Accepted.{accepted}
-use Rattle.agreement.specs.Book.{entryIn}
 use Rattle.agreement.proofs.Beginning.{fresh-proposal}
 use Rattle.quiet.proofs.Views.{everyone-least}
 use Rattle.quiet.proofs.Opening.{Opened, opening, opened-facts, fresh-opened}

@@ -8,7 +8,7 @@ use Rattle.view.specs.View.{has, within, with, minus, switched, everyone, first
 use Rattle.channel.specs.Channel.{emptyChannel, waiting, pushed, popped}
 use Rattle.system.specs.declared.System.{System}
 use Rattle.system.specs.Process.{entryAt, withEntry, asCrashed, pendingAt, withVariables}
-use Rattle.system.specs.System.{noProcess, processAt, withProcess, channelNumber, channelAt, withChannel, trustAt, withTrust, trusting, sent, sentIfNamed, broadcasted, takesIfNamed, roomFor}
+use Rattle.system.specs.System.{noProcess, processAt, withProcess, channelNumber, channelAt, withChannel, trustAt, withTrust, trusting, sent, sentIfNamed, broadcasted, takesIfNamed, roomFor, entryIn}
 use Rattle.system.specs.Fresh.{freshVariables, freshProcess, freshSystem, freshOf}
 use Rattle.sound.specs.Sound.{every, soundProposal, soundMessage, soundPending, soundChannel, soundHistory, soundVariables, soundProcess, soundChannelAt, soundAt, soundSystem}
 use Rattle.plan.specs.Plan.{changed, newViewPlan, reportPlan, committingPlan, messagePlan, receivePlan, respondPlan}
@@ -18,7 +18,6 @@ use Rattle.plan.specs.Cut.{whole, cutShort, cutBy}
 use Rattle.step.specs.Step.{planOf, takenOff, emptiedFrom, crashedAt, crashedIf, departed, suspectedIfNamed, doubted, changedAt, effected, carriedOut, permitted, attempted, stepped, happened, ran}
 use Rattle.step.specs.Rest.{idleFrom, matches, answerable, restingFrom, restingAt, atRest}
 use Rattle.settle.specs.Settle.{passing, tried, moveOf, triedWith, triedAt, halfDone, roundDone, unlessIdle, roundsDone, refusedAt, allRefusedAt, noneDone, nothingToDo, endingOf, endedWith, settled}
-use Rattle.agreement.specs.Book.{entryIn}
 use Rattle.agreement.specs.Demand.{start}
 use Rattle.quiet.specs.Quiet.{lastUpTo, lastNonEmpty, localIfNamed, isCommon, Final}
 use Rattle.quiet.specs.Examples.{noneWaitsAt, noneWaits, lastView, Seen, seen, SettledSeen, settledSeen, example66, Example66, oneCut, OneCut, NoReport, unanswered, MessageWaits, Unanswered, apartFrom1, OtherView, OtherProcess, stoppedBefore, Stopped, accepted2, backAgain, trustedByHand, Needed}

@@ -13,10 +13,9 @@ use Rattle.system.specs.declared.Pending.{Pending}
 use Rattle.system.specs.declared.Pending.the-variants.{Nothing, Proposal}
 use Rattle.system.specs.declared.System.{System}
 use Rattle.system.specs.Process.{pendingAt}
-use Rattle.system.specs.System.{processAt, variablesAt}
+use Rattle.system.specs.System.{processAt, variablesAt, entryIn}
 use Rattle.plan.specs.declared.Change.{Change}
 use Rattle.step.proofs.Cases.{waitingAt, Effect}
-use Rattle.agreement.specs.Book.{entryIn}
 use Rattle.agreement.proofs.Changes.{Since}
 use Rattle.quiet.proofs.Remains.{Some, some-end, some-kept, live-goes-on}
 use Rattle.quiet.proofs.Turns.{Steady}

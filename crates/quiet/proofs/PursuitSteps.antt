@@ -19,14 +19,13 @@ use Rattle.system.specs.declared.Variables.{Variables}
 use Rattle.system.specs.declared.Process.{Process}
 use Rattle.system.specs.declared.System.{System}
 use Rattle.system.specs.Process.{entryAt, withEntry, pendingAt}
-use Rattle.system.specs.System.{processAt, variablesAt}
+use Rattle.system.specs.System.{processAt, variablesAt, entryIn}
 use Rattle.plan.specs.declared.Change.{Change}
 use Rattle.plan.specs.declared.Action.{Action}
 use Rattle.plan.specs.declared.Action.the-variants.{Report, Receive, Respond, Crash}
 use Rattle.step.proofs.Cases.{waitingAt, Known, Taken, afterwards, Effect, Marking, present, stale, Records, Transition, proposes, follows, records, reproposes, ignores, marks, commits, enters, accepts, declines, crashes}
 use Rattle.step.proofs.Effects.{each-process}
 use Rattle.agreement.specs.Accepted.{Acceptance}
-use Rattle.agreement.specs.Book.{entryIn}
 use Rattle.agreement.proofs.Invariant.{Reached}
 use Rattle.agreement.proofs.Changes.{Since, at-actor}
 use Rattle.agreement.proofs.Steps.{honest-first}

@@ -19,12 +19,11 @@ use Rattle.system.specs.declared.Pending.the-variants.{Nothing, Proposal}
 use Rattle.system.specs.declared.Variables.{Variables}
 use Rattle.system.specs.declared.System.{System}
 use Rattle.system.specs.Process.{pendingAt}
-use Rattle.system.specs.System.{processAt, variablesAt, channelAt}
+use Rattle.system.specs.System.{processAt, variablesAt, channelAt, entryIn}
 use Rattle.step.specs.Rest.{idleFrom, matches, answerable, restingFrom, restingAt, atRest}
 use Rattle.step.proofs.Soundness.{Sound, SoundVariables}
 use Rattle.step.proofs.Cases.{waitingAt, Known}
 use Rattle.agreement.specs.Accepted.{Acceptance, accepted}
-use Rattle.agreement.specs.Book.{entryIn}
 use Rattle.agreement.proofs.Invariant.{Recorded, Entered}
 use Rattle.quiet.specs.Quiet.{lastUpTo, lastNonEmpty, localIfNamed, isCommon, Final}
 use Rattle.quiet.proofs.Views.{least-named, part-by-processes}

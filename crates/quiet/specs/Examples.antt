@@ -7,7 +7,7 @@ use mathlib.Core.List.{List, [], _∷_, map}
 use Rattle.view.specs.declared.ProcessId.{ProcessId}
 use Rattle.view.specs.Logic.{allUpTo}
 use Rattle.system.specs.declared.System.{System}
-use Rattle.system.specs.System.{withTrust, trusting}
+use Rattle.system.specs.System.{withTrust, trusting, entryIn}
 use Rattle.sound.specs.Sound.{soundSystem}
 use Rattle.plan.specs.declared.Action.the-variants.{Report, Receive, Respond, Crash}
 use Rattle.plan.specs.Cut.{whole, cutAfter}
@@ -17,7 +17,6 @@ use Rattle.settle.specs.declared.Ending.{Ending}
 use Rattle.settle.specs.declared.Ending.the-variants.{Rest}
 use Rattle.settle.specs.declared.Settled.{Settled}
 use Rattle.settle.specs.Settle.{settled}
-use Rattle.agreement.specs.Book.{entryIn}
 use Rattle.agreement.specs.Demand.{start}
 use Rattle.quiet.specs.Quiet.{lastNonEmpty, isCommon, Final}
 

@@ -8,10 +8,10 @@ use lib.Dec.{eqb, ltb}
 use Rattle.view.specs.Logic.{pick, allUpTo}
 use Rattle.view.specs.View.{has, within, leastOf}
 use Rattle.system.specs.declared.System.{System}
-use Rattle.system.specs.System.{variablesAt}
+use Rattle.system.specs.System.{variablesAt, entryIn}
+use Rattle.system.specs.Process.{isWritten}
 use Rattle.step.specs.Step.{Event, ran}
 use Rattle.step.specs.Rest.{atRest}
-use Rattle.agreement.specs.Book.{isWritten, entryIn}
 use Rattle.agreement.specs.Demand.{start}
 
 -- the greatest of the indices 1 to i at which process p has an entry; 0 if it has none

@@ -4,16 +4,13 @@ use mathlib.Core.Path.{_≡_, refl, sym, _∙_, ap}
 use mathlib.Core.Bool.{true}
 use mathlib.Core.List.{List, [], _∷_, _++_}
 use native.Mathlib.Numerals.{add-one}
-use borrow.Author.Tests.{lt-ltb, le-ltb, eq-eqb}
-use lib.Dec.{eqb}
+use borrow.Author.Tests.{lt-ltb, le-ltb}
 use lib.ListN.{length, take, drop}
 use Rattle.view.specs.Logic.{at, pick, isOneOf}
 use Rattle.tallies.specs.declared.Tally.{Tally}
 use Rattle.tallies.specs.Tally.{noTally, plus, capped}
 use Rattle.system.specs.declared.System.{System}
-use Rattle.system.specs.Fresh.{freshSystem}
 use Rattle.step.specs.Counts.{stillWaiting}
-use Rattle.image.specs.Image.{imageWidth, systemIn}
 use Rattle.print.specs.Text.{bytes}
 use Rattle.print.specs.Page.{Page, typed}
 use Rattle.print.specs.Print.{columnLine, unitLines}
@@ -89,13 +86,6 @@ bad-again total p q sheet at start end next line cut whole here =
 pub bad-end : (total p : Page) (sheet : List ℕ) (at line : ℕ) → linesOf (drop at sheet) ≡ [] → total ≡ typed p (badFrom line (linesOf (drop at sheet))) → p ≡ total
 unfolding badFrom typed
 bad-end total p sheet at line none whole = sym (whole ∙ ap (λ (ls : List (List ℕ)). typed p (badFrom line ls)) none)
-
--- ---- bytes as many as an image has, once a fresh system is put into them
-pub fresh-in : (b c : List ℕ) (n : ℕ) → length b ≡ imageWidth
-    → systemIn c ≡ pick (eqb (length b) imageWidth) (freshSystem n) (systemIn b)
-    → systemIn c ≡ freshSystem n
-unfolding pick
-fresh-in b c n long put = put ∙ rw (eq-eqb (length b) imageWidth long)
 
 -- ---- the whole sheet, by how it begins
 pub output-long : (sheet : List ℕ) → 60000 < length sheet → output sheet ≡ bytes "0 9\n"

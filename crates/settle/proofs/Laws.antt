@@ -2,12 +2,11 @@
 use Prim.Native.Nat.{ℕ, zero, suc, _+_, _-_, _≤_, _<_}
 use mathlib.Core.Path.{_≡_, refl, sym, _∙_, ap, subst}
 use mathlib.Core.Bool.{Bool, true, false, _&&_, not}
-use mathlib.Core.List.{List, _++_, append-nil}
+use mathlib.Core.List.{List}
 use native.Mathlib.Omega.{arith}
 use borrow.Author.Tests.{eqb-true, eq-eqb, ne-eqb, lt-ltb, le-ltb}
 use lib.Dec.{eqb, ltb}
-use lib.ListN.{length, take, drop}
-use lib.Seq.{take-length, drop-length}
+use lib.ListN.{length}
 use Rattle.view.specs.Logic.{pick, eachUpTo}
 use Rattle.view.proofs.Laws.{each-more, true-is-not-false}
 use Rattle.tallies.specs.declared.Tally.{Tally}
@@ -167,10 +166,6 @@ sound-long b sound = go (eqb (length b) imageWidth) refl sound
     go : (t : Bool) → eqb (length b) imageWidth ≡ t → soundSystem (pick t (decoded b) noSystem) ≡ true → length b ≡ imageWidth
     go true e s = eqb-true (length b) imageWidth e
     go false e s = true-is-not-false (sym s ∙ no-system)
-
-pub copy-whole : (from to after : List ℕ) → length from ≡ length to → after ≡ take (length from) from ++ drop (length from) to → after ≡ from
-copy-whole from to after long is =
-    is ∙ rw (take-length from, ap (λ (k : ℕ). drop k to) long, drop-length to) (append-nil from)
 
 -- ---- the whole run
 ended : (budget : ℕ) (x : StepsDone) (c : List ℕ) (e : Ending) → e ≡ endingOf budget (progressIn c x)

@@ -2,7 +2,8 @@
 -- stopped; its local view; Next; PropOut; its last proposed view; the set of units that have acknowledged; and for each unit
 -- one recorded proposal or none."
 use Prim.Native.Nat.{ℕ}
-use mathlib.Core.Bool.{true, false}
+use mathlib.Core.Bool.{Bool, true, false, not}
+use lib.Dec.{eqb}
 use lib.ListN.{replicate}
 use Rattle.view.specs.declared.GroupIndex.{GroupIndex}
 use Rattle.view.specs.Logic.{at, put}
@@ -16,6 +17,10 @@ use Rattle.system.specs.declared.Process.{Process}
 -- the entry at index i: "the empty view there is the empty position"
 unfoldable pub entryAt : History → ℕ → ℕ
 entryAt h i = at (h .entries) i 0
+
+-- "In the base, written means not empty."
+abbrev pub isWritten : ℕ → Bool
+isWritten v = not (eqb v 0)
 
 unfoldable pub withEntry : History → ℕ → ℕ → History
 withEntry h i v = record { entries = put (h .entries) i v }

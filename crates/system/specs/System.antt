@@ -13,7 +13,7 @@ use Rattle.system.specs.declared.Variables.{Variables}
 use Rattle.system.specs.declared.Process.{Process}
 use Rattle.system.specs.declared.System.{System}
 use Rattle.system.specs.declared.Outcome.{Outcome}
-use Rattle.system.specs.Process.{noVariables, noEntries, pendingSlot}
+use Rattle.system.specs.Process.{noVariables, entryAt, noEntries, pendingSlot}
 
 -- what is read where there is no process of that number
 unfoldable pub noProcess : Process
@@ -24,6 +24,10 @@ processAt s p = at (s .processes) p noProcess
 
 abbrev pub variablesAt : System → ℕ → Variables
 variablesAt s p = processAt s p .variables
+
+-- the entry of process p at index i
+unfoldable pub entryIn : System → ℕ → ℕ → ℕ
+entryIn s p i = entryAt (processAt s p .history) i
 
 unfoldable pub withProcess : System → ℕ → Process → System
 withProcess s p x = record { n = s .n; processes = put (s .processes) p x; channels = s .channels; trust = s .trust }

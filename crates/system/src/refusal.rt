@@ -1,6 +1,6 @@
 // The refusal table of document 01, with the numbers that document 02 adds. 0 stands for a step that
 // is done. Which of several numbers is given is the definitions' to say: 10 and 11 stand "in the place
-// of 5 in the order", 12 "after 6 and before 7", 13 "after 4 and before 5".
+// of 5 in the order", 12 "after 6 and before 7", 13 "after 4 and before 5", 14 "after 2".
 
 // "the table is not sound"
 pub const UNSOUND: u8 = 1;
@@ -42,3 +42,6 @@ pub const CUT_TOO_LATE: u8 = 12;
 // "a report that brings back a unit q is refused unless, at some moment since p's latest suspicion of
 // q (that moment counted), q's local view lacked p"
 pub const EARLY_TRUST: u8 = 13;
+
+// "too deep, for depth above 8 or more than 2 units"
+pub const TOO_DEEP: u8 = 14;

@@ -20,6 +20,7 @@ mod step;
 mod system;
 mod tally;
 mod view;
+mod walk;
 
 pub use class::{class_output, read_sheet, NAMES_LIMIT, NAME_LIMIT};
 pub use message::{GroupIndex, Message, Proposal, LAST_INDEX};
@@ -32,3 +33,4 @@ pub use step::{crash, receive, report, respond, Action, Event, Step};
 pub use system::{fresh, Channel, System, CAPACITY, MAX_PROCESSES};
 pub use tally::{tally_sheet, Tally};
 pub use view::{ProcessId, View};
+pub use walk::{print_walk, walk, Walk};

@@ -29,6 +29,8 @@ pub enum Refusal {
     CutTooLate,
     /// A report brings back a process that may not be trusted yet.
     EarlyTrust,
+    /// A walk is wanted deeper than 8, or of more than 2 processes.
+    TooDeep,
 }
 
 /// What a step answers.
@@ -51,6 +53,7 @@ pub fn number(outcome: Outcome) -> u8 {
         Err(Refusal::OtherView) => 11,
         Err(Refusal::CutTooLate) => 12,
         Err(Refusal::EarlyTrust) => 13,
+        Err(Refusal::TooDeep) => 14,
     }
 }
 

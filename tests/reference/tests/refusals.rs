@@ -48,8 +48,9 @@ fn numbers_of_the_table() {
         Refusal::OtherView,
         Refusal::CutTooLate,
         Refusal::EarlyTrust,
+        Refusal::TooDeep,
     ];
-    let numbers = [1, 2, 3, 4, 5, 6, 7, 8, 9, 10, 11, 12, 13];
+    let numbers = [1, 2, 3, 4, 5, 6, 7, 8, 9, 10, 11, 12, 13, 14];
     assert_eq!(table.map(|refusal| number(Err(refusal))), numbers);
     assert_eq!(number(Ok(())), 0);
 }

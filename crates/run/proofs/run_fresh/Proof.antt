@@ -4,7 +4,7 @@ use borrow.Author.Needs.{needs}
 use Rattle.system.specs.Fresh.{freshSystem}
 use Rattle.image.specs.Image.{systemIn}
 use Rattle.step.proofs.Beginning.{fresh-valid}
-use Rattle.run.proofs.Laws.{fresh-in}
+use Rattle.fresh.proofs.Blank.{fresh-in}
 use Rattle.run.proofs.run_fresh.Statement.{statement}
 use Rattle.run.proofs.run_fresh.Tie as tie
 

@@ -6,7 +6,8 @@ use mathlib.Core.List.{List}
 use native.Mathlib.Omega.{arith}
 use Rattle.sound.specs.Sound.{soundSystem}
 use Rattle.image.specs.Image.{systemIn}
-use Rattle.settle.proofs.Laws.{sound-long, copy-whole}
+use Rattle.image.proofs.Laws.{copy-whole}
+use Rattle.settle.proofs.Laws.{sound-long}
 use Rattle.settle.proofs.Idle.{round-tells}
 use borrow.Author.Needs.{needs}
 use Rattle.settle.proofs.nothing_to_do.Statement.{statement}

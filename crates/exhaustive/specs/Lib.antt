@@ -1,0 +1,3 @@
+-- "I tried them all".
+pub mod Exhaustive
+pub mod NamedCounts

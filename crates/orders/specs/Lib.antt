@@ -1,0 +1,3 @@
+-- All orders up to a depth.
+pub mod Orders
+pub mod Walks

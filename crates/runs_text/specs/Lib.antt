@@ -1,0 +1,3 @@
+-- What is printed for a walk.
+pub mod RunsText
+pub mod Examples
