@@ -7,7 +7,7 @@
  * hold anything, and a step that is done may change it.
  *
  * STACK (measured on x86-64 by tests/stack): a step, a list of steps and lobstercreel_fresh take less than 400 bytes, lobstercreel_settle
- * less than 3 KB, lobstercreel_run less than 6 KB.
+ * less than 4 KB, lobstercreel_run less than 6 KB.
  *
  * Build the library with `rt staticlib capi` and link target/staticlib/libcapi.a (x86-64 only). docs/IMAGE.md has the layout as a
  * table, and where each sentence here is proved.

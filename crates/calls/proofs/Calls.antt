@@ -11,9 +11,7 @@ use Rattle.system.specs.Fresh.{freshOf}
 use Rattle.step.specs.Step.{stepped, Event, happened, ran}
 use Rattle.step.proofs.Outcomes.{ran-append}
 use Rattle.image.specs.Image.{imageWidth, systemIn}
-use Rattle.engine.specs.declared.Order.{Order}
-use Rattle.engine.specs.declared.Order.the-variants.{Unknown, Do}
-use Rattle.engine.specs.Engine.{ordersIn, obeyed, systemAfter}
+use Rattle.engine.specs.Engine.{Order, Unknown, Do, ordersIn, obeyed, systemAfter}
 use Rattle.capi.specs.Calls.{Freshens}
 use Rattle.agreement.specs.Demand.{start}
 use Rattle.agreement.proofs.Theorem.{demand-3}

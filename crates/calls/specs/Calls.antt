@@ -7,9 +7,7 @@ use lib.ListN.{length}
 use Rattle.plan.specs.declared.Step.{Step}
 use Rattle.step.specs.Step.{stepped, Event, does, ran}
 use Rattle.image.specs.Image.{imageWidth, systemIn}
-use Rattle.engine.specs.declared.Order.{Order}
-use Rattle.engine.specs.declared.Order.the-variants.{Unknown, Do}
-use Rattle.engine.specs.Engine.{Gives, Performs, ordersIn}
+use Rattle.engine.specs.Engine.{Gives, Order, Unknown, Do, Performs, ordersIn}
 use Rattle.settle.specs.Settle.{settled}
 use Rattle.bound.specs.Settling.{Moves}
 use Rattle.capi.specs.Calls.{Freshens, Tells}

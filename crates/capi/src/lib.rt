@@ -12,6 +12,7 @@ ghost use Rattle.capi.specs.Calls.{Freshens, Prints, endingNumber, Tells
 use engine::perform;
 use fresh::put_fresh;
 use image::IMAGE;
+use list::perform_all;
 use plan::Action;
 use plan::Cut;
 use plan::Step;
@@ -137,7 +138,7 @@ fn ending_number(e: Ending) -> u16
 pub extern "C" fn lobstercreel_steps(image: &mut [u8], list: &[u8], numbers: &mut [u8]) -> usize
     ensures { λ r. ⌜ Performs (now (list .entry)) (now (image .entry)) (now (numbers .entry)) r (now (image .exit)) (now (numbers .exit)) ⌝ }
 {
-    engine::perform_all(image, list, numbers)
+    perform_all(image, list, numbers)
 }
 
 // The settling run: takes and answers, until a whole round does nothing. The steps done and how it

@@ -45,6 +45,6 @@ hasRoom c = ltb (c .len) 8
 unfoldable pub pushed : Channel → Message → Channel
 pushed c m = pick (hasRoom c) (record { slots = set (c .slots) (c .len) (slot m); len = c .len + 1 }) c
 
--- the oldest message comes off, where there is one: the others move up, and the last slot holds no message
+-- the oldest message comes off, where there is one: the others move up one slot, and the last slot keeps what it had
 unfoldable pub popped : Channel → Channel
-popped c = pick (ltb 0 (c .len)) (record { slots = drop 1 (c .slots) ++ (blank ∷ []); len = c .len - 1 }) c
+popped c = pick (ltb 0 (c .len)) (record { slots = drop 1 (c .slots) ++ drop 7 (c .slots); len = c .len - 1 }) c

@@ -1,5 +1,4 @@
-pub mod Laws
+-- Laws of a step that is done in place.
 pub mod Given
-pub mod Lists
-pub mod Halves
-pub mod Counting
+pub mod Carrying
+pub mod Alternatives

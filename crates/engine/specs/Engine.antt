@@ -1,11 +1,12 @@
 -- What a step, and a list of steps, on an image answers and leaves in it.
 use Prim.Native.Nat.{ℕ, zero, suc, _+_, _-_, _*_, _/_, _%_, min}
 use mathlib.Core.Path.{_≡_}
-use mathlib.Core.Bool.{Bool, true, _&&_, not}
+use mathlib.Core.Bool.{Bool, true, false, _&&_, not}
 use mathlib.Core.List.{List, [], _∷_, _++_}
 use lib.Dec.{eqb, ltb}
 use lib.ListN.{length, getD, drop}
 use Rattle.view.specs.Logic.{pick}
+use Rattle.view.specs.declared.ProcessId.{ProcessId}
 use Rattle.system.specs.declared.System.{System}
 use Rattle.system.specs.declared.Outcome.{Outcome}
 use Rattle.system.specs.System.{refused}
@@ -15,10 +16,11 @@ use Rattle.plan.specs.declared.Action.the-variants.{Report, Receive, Respond, C
 use Rattle.plan.specs.declared.Cut.{Cut}
 use Rattle.plan.specs.declared.Cut.the-variants.{Whole, After}
 use Rattle.plan.specs.declared.Step.{Step}
-use Rattle.step.specs.Step.{attempted, stepped}
+use Rattle.plan.specs.declared.Scope.{Scope}
+use Rattle.plan.specs.declared.Plan.{Plan}
+use Rattle.plan.specs.Cut.{cutBy}
+use Rattle.step.specs.Step.{takenOff, carriedOut, attempted, stepped}
 use Rattle.image.specs.Image.{systemIn}
-use Rattle.engine.specs.declared.Order.{Order}
-use Rattle.engine.specs.declared.Order.the-variants.{Unknown, Do}
 
 -- bytes b become bytes c and the number k is answered: that is the outcome o, and where it is refused every byte is as it was
 pub record Gives (o : Outcome) (b : List ℕ) (k : ℕ) (c : List ℕ) : Type 0 where
@@ -31,10 +33,27 @@ pub record Attempts (o : Step) (b : List ℕ) (k : ℕ) (c : List ℕ) : Type 0 
   pub steps : soundSystem (systemIn b) ≡ true → Gives (stepped (systemIn b) o) b k c
   pub stays : soundSystem (systemIn b) ≡ true → soundSystem (systemIn c) ≡ true
 
+-- ---- the plan of a step, carried out
+-- whom a take names, from process q at process p; and an action of process p that takes no message and names process q
+abbrev pub taking : ProcessId → ProcessId → Scope
+taking q p = record { actor = p; partner = q; takes = true }
+
+abbrev pub facing : ProcessId → ProcessId → Scope
+facing p q = record { actor = p; partner = q; takes = false }
+
+-- the plan a, whole or cut, of an action that names these
+abbrev pub carried : System → Scope → Cut → Plan → Outcome
+carried s c cut a = carriedOut s (takenOff s c) (c .actor .0) (cutBy cut a)
+
 -- ---- a list of steps, four bytes each: its kind, what it names, and how it is cut
 -- 255 is a whole step, and any other byte the number of messages after which it is cut
 unfoldable pub cutOf : ℕ → Cut
 cutOf k = pick (eqb k 255) Whole (After k)
+
+-- what four bytes say: no step, or one
+pub data Order : Type 0 where
+  Unknown : Order
+  Do : Step → Order
 
 abbrev pub ordered : Action → Cut → Order
 ordered o c = Do (record { action = o; cut = c })

@@ -1,83 +1,71 @@
 // The one place where a step is done: on the image that the caller lends.
-ghost use Prim.Native.Nat.{min};
 ghost use mathlib.Core.Path.{_≡_};
-ghost use mathlib.Core.Bool.{_&&_, _||_};
+ghost use mathlib.Core.Bool.{_&&_};
 ghost use Rattle.view.specs.Logic.{pick, isOneOf};
-ghost use Rattle.channel.specs.Channel.{hasRoom};
-ghost use Rattle.system.specs.System.{variablesAt, channelAt, withTrust, trusting, sentIfNamed, broadcasted, roomFor};
-ghost use Rattle.sound.specs.Sound.{soundSystem};
-ghost use Rattle.step.specs.Step.{planOf, takenOff, departed, suspectedIfNamed, doubted, changedAt, crashedAt, crashedIf, effected, stepped};
-ghost use Rattle.step.specs.Counts.{planTally, stepTally};
-ghost use Rattle.tallies.specs.Tally.{noTally};
+ghost use Rattle.view.specs.View.{with, minus, everyone};
+ghost use Rattle.channel.specs.declared.Message.{Message};
+ghost use Rattle.system.specs.declared.Pending.{Pending};
+ghost use Rattle.system.specs.System.{variablesAt};
+ghost use Rattle.plan.specs.declared.Action.{Action};
+ghost use Rattle.plan.specs.Fields.{withView, withNext, withAcks, proposing};
+ghost use Rattle.plan.specs.Plan.{assigning, recording, entering, sending, quietly, doubting};
+ghost use Rattle.step.specs.Step.{stepped};
 ghost use Rattle.image.specs.Image.{systemIn};
-ghost use Rattle.engine.specs.Engine.{Gives, Attempts, cutOf, orderOf, orderAt, orderCount, obeyed, Performs};
-
-pub mod counts;
-
+ghost use Rattle.engine.specs.Engine.{Gives, Attempts, taking, facing, carried};
 use channel::Message;
-use counts::lost;
-use counts::plan_counts;
-use image::clear;
+use effects::crash;
+use effects::crash_if;
+use effects::doubt;
+use effects::room;
+use effects::send_if_named;
+use effects::send_out;
+use effects::takes_if_named;
 use image::front_at;
-use image::length_at;
 use image::pending_at;
 use image::pop;
-use image::push;
 use image::put_entry;
 use image::put_pending;
-use image::put_trust;
 use image::put_variables;
 use image::size;
 use image::trust_at;
 use image::variables_at;
 use plan::Action;
-use plan::Change;
 use plan::Cut;
-use plan::Plan;
+use plan::ReceiveChoice;
+use plan::ReportChoice;
+use plan::RespondChoice;
 use plan::Scope;
 use plan::Step;
-use plan::cut_by;
-use plan::scope_of;
-use system::refusal::BAD_LINE;
+use plan::is_whole;
+use plan::proposing;
+use plan::reach_of;
+use plan::receive_choice;
+use plan::report_choice;
+use plan::reproposing;
+use plan::respond_choice;
+use plan::with_acks;
+use plan::with_next;
+use plan::with_view;
+use system::Pending;
+use system::Variables;
 use system::refusal::CHANNEL_FULL;
 use system::refusal::CRASHED;
+use system::refusal::CUT_TOO_LATE;
 use system::refusal::STRANGER;
 use system::refusal::UNSOUND;
-use tallies::Tally;
 use view::GroupIndex;
 use view::ProcessId;
 use view::and;
-use view::has;
+use view::everyone;
 use view::is_one_of;
-use view::or;
-use view::switched;
+use view::minus;
+use view::with;
 
-// What the acting process plans, where it is not cut.
-fn plan_of(image: &[u8], o: Action) -> Plan
-    ensures { λ r. ⌜ r ≡ planOf (systemIn (now (image .entry))) o ⌝ }
-{
-    match o {
-        Action::Report(p, view) => {
-            let x = variables_at(image, p);
-            plan::report_plan(size(image), p, view, x, trust_at(image, p))
-        }
-        Action::Receive(q, p) => {
-            plan::receive_plan(q, p, variables_at(image, p), front_at(image, q, p))
-        }
-        Action::Respond(p, q) => {
-            plan::respond_plan(q, variables_at(image, p), pending_at(image, p, q))
-        }
-        Action::Crash(p) => plan::crash_plan(variables_at(image, p)),
-    }
-}
-
-// Refusals 2 and 3, or 0.
-fn guard(image: &[u8], c: Scope) -> u8
-    ensures { λ r. ⌜ r ≡ pick (isOneOf (systemIn (now (image .entry)) .n) (c .actor .0) && isOneOf (systemIn (now (image .entry)) .n) (c .partner .0)) (pick (variablesAt (systemIn (now (image .entry))) (c .actor .0) .crashed) 3 0) 2 ⌝ }
+// Refusals 2 and 3, or 0: process p acts, and the action names process q too.
+fn guard(image: &[u8], p: ProcessId, q: ProcessId) -> u8
+    ensures { λ r. ⌜ r ≡ pick (isOneOf (systemIn (now (image .entry)) .n) (p .0) && isOneOf (systemIn (now (image .entry)) .n) (q .0)) (pick (variablesAt (systemIn (now (image .entry))) (p .0) .crashed) 3 0) 2 ⌝ }
 {
     let n = size(image);
-    let p = c.actor;
-    let q = c.partner;
     if and(is_one_of(n, p), is_one_of(n, q)) {
         let x = variables_at(image, p);
         if x.crashed { CRASHED } else { 0 }
@@ -86,207 +74,270 @@ fn guard(image: &[u8], c: Scope) -> u8
     }
 }
 
-// Process k has crashed, or the channel from the actor to it has room once the taken message is off.
-fn takes(image: &[u8], c: Scope, k: ProcessId) -> bool
-    ensures { λ r. ⌜ r ≡ (variablesAt (systemIn (now (image .entry))) (k .0) .crashed || hasRoom (channelAt (takenOff (systemIn (now (image .entry))) c) (c .actor .0) (k .0))) ⌝ }
+// The four functions for a step take the system to be sound, as `attempt` does: internal, as that is.
+// ---- a report
+// Process p only takes the view over. What sends nothing is never cut.
+fn adopt_view(image: &mut [u8], p: ProcessId, view: u8, cut: Cut) -> u8
+    ensures { λ r. ⌜ Gives (carried (systemIn (now (image .entry))) (facing p p) cut (doubting (minus (everyone (systemIn (now (image .entry)) .n)) view) (quietly (assigning (withView (variablesAt (systemIn (now (image .entry))) (p .0)) view))))) (now (image .entry)) r (now (image .exit)) ⌝ }
 {
-    let p = c.actor;
-    let q = c.partner;
-    let x = variables_at(image, k);
-    let len = length_at(image, p, k);
-    // The message that is taken comes off the actor's channel to itself.
-    let own = and(and(c.takes, q.0 == p.0), k.0 == p.0);
-    or(x.crashed, or(len < 8, and(own, len == 8)))
-}
-
-// Refusal 7 is not given: each addressee takes the message. The turns end with the last addressee.
-fn room(image: &[u8], c: Scope, to: u8) -> bool
-    ensures { λ r. ⌜ r ≡ roomFor (takenOff (systemIn (now (image .entry))) c) (c .actor .0) to ⌝ }
-{
-    let mut ok = true;
-    let mut rest = to;
-    let mut i: u8 = 0;
-    while rest != 0 {
-        rest = rest / 2;
-        i += 1;
-        ok = and(
-            ok,
-            or(!has(to, ProcessId(i)), takes(image, c, ProcessId(i))),
-        );
+    if is_whole(cut) {
+        doubt(image, p, minus(everyone(size(image)), view));
+        put_variables(image, p, with_view(variables_at(image, p), view));
+        0
+    } else {
+        CUT_TOO_LATE
     }
-    ok
 }
 
-// One message from process q to process p, where it is named. To a crashed process it vanishes.
-fn send_if_named(image: &mut [u8], q: ProcessId, to: u8, m: Message, p: ProcessId)
-    ensures { λ r. ⌜ systemIn (now (image .exit)) ≡ sentIfNamed (q .0) to m (p .0) (systemIn (now (image .entry))) ⌝ }
+// Process p proposes the view at index i.
+fn propose_view(image: &mut [u8], p: ProcessId, view: u8, i: GroupIndex, cut: Cut) -> u8
+    ensures { λ r. ⌜ Gives (carried (systemIn (now (image .entry))) (facing p p) cut (doubting (minus (everyone (systemIn (now (image .entry)) .n)) view) (sending (assigning (proposing (variablesAt (systemIn (now (image .entry))) (p .0)) view (i .0))) view (Message.Propose view i)))) (now (image .entry)) r (now (image .exit)) ⌝ }
 {
-    if has(to, p) {
-        let x = variables_at(image, p);
-        if x.crashed {
-            return;
+    let c = Scope {
+        actor: p,
+        partner: p,
+        takes: false,
+    };
+    let t = reach_of(cut, view);
+    if t.refusal == 0 {
+        if room(image, c, t.addressees) {
+            doubt(image, p, minus(everyone(size(image)), view));
+            put_variables(image, p, proposing(variables_at(image, p), view, i));
+            send_out(image, p, t, Message::Propose(view, i));
+            0
+        } else {
+            CHANNEL_FULL
         }
-        push(image, q, p, m);
+    } else {
+        t.refusal
     }
 }
 
-// One message from process q to every process of a view, in rising order.
-fn broadcast(image: &mut [u8], q: ProcessId, to: u8, m: Message)
-    ensures { λ r. ⌜ systemIn (now (image .exit)) ≡ broadcasted (systemIn (now (image .entry))) (q .0) to m ⌝ }
+// Process p is told its view.
+pub fn do_report(image: &mut [u8], p: ProcessId, view: u8, cut: Cut) -> u8
+    ensures { λ r. ⌜ Attempts (record { action = Action.Report p view; cut = cut }) (now (image .entry)) r (now (image .exit)) ⌝ }
 {
-    let mut rest = to;
-    let mut i: u8 = 0;
-    while rest != 0 {
-        rest = rest / 2;
-        i += 1;
-        send_if_named(image, q, to, m, ProcessId(i));
+    let refusal = guard(image, p, p);
+    if refusal == 0 {
+        let n = size(image);
+        let x = variables_at(image, p);
+        match report_choice(n, p, view, x, trust_at(image, p)) {
+            ReportChoice::Refuse(k) => k,
+            ReportChoice::Adopt => adopt_view(image, p, view, cut),
+            ReportChoice::ProposeAt(i) => propose_view(image, p, view, i, cut),
+        }
+    } else {
+        refusal
     }
 }
 
-// Process p stops: every channel towards it is emptied.
-fn crash(image: &mut [u8], p: ProcessId)
-    ensures { λ r. ⌜ systemIn (now (image .exit)) ≡ crashedAt (systemIn (now (image .entry))) (p .0) ⌝ }
+// ---- a take, at process p, of a message from process q
+// The proposal is recorded.
+fn record_proposal(
+    image: &mut [u8],
+    q: ProcessId,
+    p: ProcessId,
+    cut: Cut,
+    view: u8,
+    i: GroupIndex,
+) -> u8
+    ensures { λ r. ⌜ Gives (carried (systemIn (now (image .entry))) (taking q p) cut (quietly (recording (variablesAt (systemIn (now (image .entry))) (p .0)) q (Pending.Proposal view i)))) (now (image .entry)) r (now (image .exit)) ⌝ }
 {
-    let mut x = variables_at(image, p);
-    x.crashed = true;
-    put_variables(image, p, x);
-    let mut q: u8 = 0;
-    while q < 8 {
-        q += 1;
-        clear(image, ProcessId(q), p);
-    }
-}
-
-// Process p may trust process q again, or may not.
-fn trust(image: &mut [u8], p: ProcessId, q: ProcessId, on: bool)
-    ensures { λ r. ⌜ systemIn (now (image .exit)) ≡ withTrust (systemIn (now (image .entry))) (trusting (systemIn (now (image .entry)) .trust) (p .0) (q .0) on) ⌝ }
-{
-    let set = trust_at(image, p);
-    put_trust(image, p, switched(set, q, on));
-}
-
-// Process q leaves the view of process p, where it is there.
-fn depart(image: &mut [u8], p: ProcessId, q: ProcessId)
-    ensures { λ r. ⌜ systemIn (now (image .exit)) ≡ withTrust (systemIn (now (image .entry))) (departed (systemIn (now (image .entry))) (p .0) (q .0) (systemIn (now (image .entry)) .trust)) ⌝ }
-{
-    let x = variables_at(image, p);
-    if has(x.view, q) {
-        let y = variables_at(image, q);
-        trust(image, p, q, !has(y.view, p));
-    }
-}
-
-// Process p comes to lack process q, or goes on to, where it is one of a set.
-fn suspect_if_named(image: &mut [u8], p: ProcessId, suspects: u8, q: ProcessId)
-    ensures { λ r. ⌜ systemIn (now (image .exit)) ≡ withTrust (systemIn (now (image .entry))) (suspectedIfNamed (systemIn (now (image .entry))) (p .0) suspects (q .0) (systemIn (now (image .entry)) .trust)) ⌝ }
-{
-    if has(suspects, q) {
-        depart(image, p, q);
-        trust(image, q, p, true);
-    }
-}
-
-// Process p, whose view is still the old one, comes to lack the processes of a set, or goes on to.
-fn doubt(image: &mut [u8], p: ProcessId, suspects: u8)
-    ensures { λ r. ⌜ systemIn (now (image .exit)) ≡ doubted (systemIn (now (image .entry))) (p .0) suspects ⌝ }
-{
-    let mut rest = suspects;
-    let mut i: u8 = 0;
-    while rest != 0 {
-        rest = rest / 2;
-        i += 1;
-        suspect_if_named(image, p, suspects, ProcessId(i));
-    }
-}
-
-// Process p changes as its plan says.
-fn change(image: &mut [u8], p: ProcessId, c: Change)
-    ensures { λ r. ⌜ systemIn (now (image .exit)) ≡ changedAt (systemIn (now (image .entry))) (p .0) c ⌝ }
-{
-    let x = c.variables;
-    let q = c.proposer;
-    let r = c.pending;
-    let i = c.index;
-    put_variables(image, p, x);
-    put_pending(image, p, q, r);
-    put_entry(image, p, i, c.entry);
-}
-
-// The oldest message from the partner comes off, where the step takes one.
-fn take_off(image: &mut [u8], c: Scope)
-    ensures { λ r. ⌜ systemIn (now (image .exit)) ≡ takenOff (systemIn (now (image .entry))) c ⌝ }
-{
-    let p = c.actor;
-    let q = c.partner;
-    if c.takes {
+    if is_whole(cut) {
         pop(image, q, p);
+        put_pending(image, p, q, Pending::Proposal(view, i));
+        0
+    } else {
+        CUT_TOO_LATE
     }
 }
 
-// Process p stops, where its plan says so.
-fn crash_if(image: &mut [u8], stops: bool, p: ProcessId)
-    ensures { λ r. ⌜ systemIn (now (image .exit)) ≡ crashedIf stops (systemIn (now (image .entry))) (p .0) ⌝ }
+// Nothing else changes.
+fn skip_message(image: &mut [u8], q: ProcessId, p: ProcessId, cut: Cut) -> u8
+    ensures { λ r. ⌜ Gives (carried (systemIn (now (image .entry))) (taking q p) cut (quietly (assigning (variablesAt (systemIn (now (image .entry))) (p .0))))) (now (image .entry)) r (now (image .exit)) ⌝ }
 {
-    if stops {
-        crash(image, p);
+    if is_whole(cut) {
+        pop(image, q, p);
+        0
+    } else {
+        CUT_TOO_LATE
     }
 }
 
-// The plan is carried out. The answer is what it counts.
-fn carry_out(image: &mut [u8], c: Scope, a: Plan) -> Tally
-    ensures { λ r. ⌜ (systemIn (now (image .exit)) ≡ effected (takenOff (systemIn (now (image .entry))) c) (c .actor .0) a) × (r ≡ planTally (takenOff (systemIn (now (image .entry))) c) c a) ⌝ }
+// These have acknowledged.
+fn mark_acks(image: &mut [u8], q: ProcessId, p: ProcessId, cut: Cut, acks: u8) -> u8
+    ensures { λ r. ⌜ Gives (carried (systemIn (now (image .entry))) (taking q p) cut (quietly (assigning (withAcks (variablesAt (systemIn (now (image .entry))) (p .0)) acks)))) (now (image .entry)) r (now (image .exit)) ⌝ }
 {
-    let p = c.actor;
-    let y = a.change;
-    let m = a.message;
-    let x = variables_at(image, p);
-    let propout = x.propout;
-    take_off(image, c);
-    doubt(image, p, a.suspects);
-    change(image, p, y);
-    broadcast(image, p, a.addressees, m);
-    let tally = plan_counts(c, a, propout, lost(image, p, a));
-    crash_if(image, a.stops, p);
-    tally
+    if is_whole(cut) {
+        pop(image, q, p);
+        put_variables(image, p, with_acks(variables_at(image, p), acks));
+        0
+    } else {
+        CUT_TOO_LATE
+    }
 }
 
-// What a step answers: its number, and what it counts.
-pub struct Tallied {
-    pub refusal: u8,
-    pub tally: Tally,
-}
-
-// A step that is refused counts nothing.
-fn uncounted(refusal: u8) -> Tallied
-    ensures { λ r. ⌜ (r .refusal ≡ refusal) × (r .tally ≡ noTally) ⌝ }
+// The view is entered at index i.
+fn enter_view(image: &mut [u8], q: ProcessId, p: ProcessId, cut: Cut, view: u8, i: GroupIndex) -> u8
+    ensures { λ r. ⌜ Gives (carried (systemIn (now (image .entry))) (taking q p) cut (quietly (entering (variablesAt (systemIn (now (image .entry))) (p .0)) (i .0) view))) (now (image .entry)) r (now (image .exit)) ⌝ }
 {
-    let tally = tallies::none();
-    Tallied { refusal, tally }
+    if is_whole(cut) {
+        pop(image, q, p);
+        put_entry(image, p, i, view);
+        0
+    } else {
+        CUT_TOO_LATE
+    }
 }
 
+// The variables become y, and a message goes to these.
+fn send_taken(
+    image: &mut [u8],
+    q: ProcessId,
+    p: ProcessId,
+    cut: Cut,
+    y: Variables,
+    to: u8,
+    m: Message,
+) -> u8
+    ensures { λ r. ⌜ Gives (carried (systemIn (now (image .entry))) (taking q p) cut (sending (assigning y) to m)) (now (image .entry)) r (now (image .exit)) ⌝ }
+{
+    let c = Scope {
+        actor: p,
+        partner: q,
+        takes: true,
+    };
+    let t = reach_of(cut, to);
+    if t.refusal == 0 {
+        if room(image, c, t.addressees) {
+            pop(image, q, p);
+            put_variables(image, p, y);
+            send_out(image, p, t, m);
+            0
+        } else {
+            CHANNEL_FULL
+        }
+    } else {
+        t.refusal
+    }
+}
+
+// Process p takes the oldest message from process q.
+pub fn do_receive(image: &mut [u8], q: ProcessId, p: ProcessId, cut: Cut) -> u8
+    ensures { λ r. ⌜ Attempts (record { action = Action.Receive q p; cut = cut }) (now (image .entry)) r (now (image .exit)) ⌝ }
+{
+    let refusal = guard(image, p, q);
+    if refusal == 0 {
+        let x = variables_at(image, p);
+        match receive_choice(q, p, x, front_at(image, q, p)) {
+            ReceiveChoice::Refuse(k) => k,
+            ReceiveChoice::Record(view, i) => record_proposal(image, q, p, cut, view, i),
+            ReceiveChoice::Skip => skip_message(image, q, p, cut),
+            ReceiveChoice::Mark(acks) => mark_acks(image, q, p, cut, acks),
+            ReceiveChoice::CommitAll => {
+                let view = x.proposal;
+                let i = x.propout;
+                send_taken(
+                    image,
+                    q,
+                    p,
+                    cut,
+                    with_acks(x, 0),
+                    view,
+                    Message::Commit(view, i),
+                )
+            }
+            ReceiveChoice::ProposeAgain(i) => {
+                let view = x.view;
+                send_taken(
+                    image,
+                    q,
+                    p,
+                    cut,
+                    reproposing(x, i),
+                    view,
+                    Message::Propose(view, i),
+                )
+            }
+            ReceiveChoice::Enter(view, i) => enter_view(image, q, p, cut, view, i),
+        }
+    } else {
+        refusal
+    }
+}
+
+// ---- an answer of process p to process q
+// Next becomes this, the record is cleared, and the message goes to the proposer.
+fn reply(image: &mut [u8], p: ProcessId, q: ProcessId, cut: Cut, next: GroupIndex, m: Message) -> u8
+    ensures { λ r. ⌜ Gives (carried (systemIn (now (image .entry))) (facing p q) cut (sending (recording (withNext (variablesAt (systemIn (now (image .entry))) (p .0)) (next .0)) q Pending.Nothing) (with 0 (q .0)) m)) (now (image .entry)) r (now (image .exit)) ⌝ }
+{
+    let c = Scope {
+        actor: p,
+        partner: q,
+        takes: false,
+    };
+    let t = reach_of(cut, with(0, q));
+    if t.refusal == 0 {
+        if takes_if_named(image, c, t.addressees, q) {
+            put_variables(image, p, with_next(variables_at(image, p), next));
+            put_pending(image, p, q, Pending::Nothing);
+            send_if_named(image, p, t.addressees, m, q);
+            crash_if(image, t.stops, p);
+            0
+        } else {
+            CHANNEL_FULL
+        }
+    } else {
+        t.refusal
+    }
+}
+
+// Process p answers what it has recorded from process q.
+pub fn do_respond(image: &mut [u8], p: ProcessId, q: ProcessId, cut: Cut) -> u8
+    ensures { λ r. ⌜ Attempts (record { action = Action.Respond p q; cut = cut }) (now (image .entry)) r (now (image .exit)) ⌝ }
+{
+    let refusal = guard(image, p, q);
+    if refusal == 0 {
+        let x = variables_at(image, p);
+        match respond_choice(x, pending_at(image, p, q)) {
+            RespondChoice::Refuse(k) => k,
+            RespondChoice::Reply(next, m) => reply(image, p, q, cut, next, m),
+        }
+    } else {
+        refusal
+    }
+}
+
+// ---- a stop
+// Process p stops for good.
+pub fn do_crash(image: &mut [u8], p: ProcessId, cut: Cut) -> u8
+    ensures { λ r. ⌜ Attempts (record { action = Action.Crash p; cut = cut }) (now (image .entry)) r (now (image .exit)) ⌝ }
+{
+    let refusal = guard(image, p, p);
+    if refusal == 0 {
+        if is_whole(cut) {
+            crash(image, p);
+            0
+        } else {
+            CUT_TOO_LATE
+        }
+    } else {
+        refusal
+    }
+}
+
+// ---- any step
 // The step, on an image whose system is taken to be sound: internal to runs that know it to be so.
-pub fn attempt(image: &mut [u8], o: Step) -> Tallied
-    ensures { λ r. ⌜ (Attempts o (now (image .entry)) (r .refusal) (now (image .exit))) × (r .tally ≡ stepTally (systemIn (now (image .entry))) o) ⌝ }
+pub fn attempt(image: &mut [u8], o: Step) -> u8
+    ensures { λ r. ⌜ Attempts o (now (image .entry)) r (now (image .exit)) ⌝ }
 {
     let action = o.action;
     let cut = o.cut;
-    let c = scope_of(action);
-    let refusal = guard(image, c);
-    if refusal == 0 {
-        let full = plan_of(image, action);
-        let a = cut_by(cut, full);
-        if a.refusal == 0 {
-            if room(image, c, a.addressees) {
-                let tally = carry_out(image, c, a);
-                Tallied { refusal: 0, tally }
-            } else {
-                uncounted(CHANNEL_FULL)
-            }
-        } else {
-            uncounted(a.refusal)
-        }
-    } else {
-        uncounted(refusal)
+    match action {
+        Action::Report(p, view) => do_report(image, p, view, cut),
+        Action::Receive(q, p) => do_receive(image, q, p, cut),
+        Action::Respond(p, q) => do_respond(image, p, q, cut),
+        Action::Crash(p) => do_crash(image, p, cut),
     }
 }
 
@@ -295,125 +346,8 @@ pub fn perform(image: &mut [u8], o: Step) -> u8
     ensures { λ r. ⌜ Gives (stepped (systemIn (now (image .entry))) o) (now (image .entry)) r (now (image .exit)) ⌝ }
 {
     if integrity::sound(image) {
-        let a = attempt(image, o);
-        a.refusal
+        attempt(image, o)
     } else {
         UNSOUND
     }
-}
-
-// What four bytes of a list of steps say.
-pub enum Order {
-    Unknown,
-    Do(Step),
-}
-
-// The fourth byte of an order whose step is whole.
-pub const WHOLE: u8 = 255;
-
-// What the fourth byte says: any other is the number of messages after which the step is cut.
-fn cut_of(byte: u8) -> Cut
-    ensures { λ r. ⌜ r ≡ cutOf byte ⌝ }
-{
-    if byte == WHOLE {
-        Cut::Whole
-    } else {
-        Cut::After(byte)
-    }
-}
-
-fn order_of(kind: u8, x: u8, y: u8, cut: Cut) -> Order
-    ensures { λ r. ⌜ r ≡ orderOf kind x y cut ⌝ }
-{
-    if kind == 0 {
-        Order::Do(Step {
-            action: Action::Report(ProcessId(x), y),
-            cut,
-        })
-    } else if kind == 1 {
-        Order::Do(Step {
-            action: Action::Receive(ProcessId(x), ProcessId(y)),
-            cut,
-        })
-    } else if kind == 2 {
-        Order::Do(Step {
-            action: Action::Respond(ProcessId(x), ProcessId(y)),
-            cut,
-        })
-    } else if kind == 3 {
-        Order::Do(Step {
-            action: Action::Crash(ProcessId(x)),
-            cut,
-        })
-    } else {
-        Order::Unknown
-    }
-}
-
-// What an order of a list does to an image whose system is sound, or is not.
-fn obey(image: &mut [u8], good: bool, order: Order) -> u8
-    requires { ⌜ good ≡ soundSystem (systemIn (now image)) ⌝ }
-    ensures { λ r. ⌜ (Gives (obeyed (systemIn (now (image .entry))) order) (now (image .entry)) r (now (image .exit))) × (good ≡ soundSystem (systemIn (now (image .exit)))) ⌝ }
-{
-    match order {
-        Order::Unknown => BAD_LINE,
-        Order::Do(o) => {
-            if good {
-                let a = attempt(image, o);
-                a.refusal
-            } else {
-                UNSOUND
-            }
-        }
-    }
-}
-
-// The order that begins at a place.
-fn order_at(list: &[u8], at: usize) -> Order
-    ensures { λ r. ⌜ r ≡ orderAt (now (list .entry)) at ⌝ }
-{
-    if at < list.len() {
-        if 3 < list.len() - at {
-            order_of(list[at], list[at + 1], list[at + 2], cut_of(list[at + 3]))
-        } else {
-            Order::Unknown
-        }
-    } else {
-        Order::Unknown
-    }
-}
-
-// How many orders a list has, one that breaks off among them.
-fn order_count(list: &[u8]) -> usize
-    ensures { λ r. ⌜ r ≡ orderCount (now (list .entry)) ⌝ }
-{
-    let whole = list.len() / 4;
-    if list.len() % 4 == 0 {
-        whole
-    } else {
-        whole + 1
-    }
-}
-
-fn lesser(a: usize, b: usize) -> usize
-    ensures { λ r. ⌜ r ≡ min a b ⌝ }
-{
-    if a < b { a } else { b }
-}
-
-// A list of steps, four bytes each: kind 0 is a report (process, view), 1 a receive (from, at), 2 a
-// response (process, to), 3 a crash (process, any byte); then WHOLE, or the number of messages after
-// which the step is cut. Their numbers go into the lent slice: as many steps are done as it has
-// places. The answer is how many that were.
-pub fn perform_all(image: &mut [u8], list: &[u8], numbers: &mut [u8]) -> usize
-    ensures { λ r. ⌜ Performs (now (list .entry)) (now (image .entry)) (now (numbers .entry)) r (now (image .exit)) (now (numbers .exit)) ⌝ }
-{
-    let good = integrity::sound(image);
-    let total = lesser(numbers.len(), order_count(list));
-    let mut count = 0;
-    while count < total {
-        numbers[count] = obey(image, good, order_at(list, 4 * count));
-        count += 1;
-    }
-    count
 }

@@ -12,7 +12,7 @@ use lib.Seq.{getD-set-same, getD-set-other, getD-drop, drop-set-add}
 use Rattle.view.specs.Logic.{pick, placeOf}
 use Rattle.channel.specs.declared.Message.{Message}
 use Rattle.channel.specs.declared.Message.the-variants.{Propose, Retry, Acc, Commit}
-use Rattle.channel.specs.Channel.{slot, blank, emptyChannel, pushed, popped}
+use Rattle.channel.specs.Channel.{slot, emptyChannel, pushed, popped}
 use Rattle.system.specs.declared.Pending.{Pending}
 use Rattle.system.specs.declared.Pending.the-variants.{Nothing, Proposal}
 use Rattle.system.specs.declared.Variables.{Variables}
@@ -21,7 +21,7 @@ use Rattle.system.specs.System.{processAt, withProcess, channelNumber, channelA
 use Rattle.image.specs.declared.Three.{Three}
 use Rattle.image.specs.Image.{messageWidth, lengthPlace, channelWidth, recordWidth, recordsPlace, historyPlace, processWidth, processesPlace, channelsPlace, imageWidth, messageBytes, pendingBytes, rows, byte, messageOf, slotIn, channelIn, pendingOf, recordIn, historyIn, variablesOf, variablesIn, processIn, systemIn}
 use Rattle.image.specs.Rows.{RowAt, withThree}
-use Rattle.image.proofs.Laws.{Outside, unchanged, written, wider, kept, rows-local, rows-rest, rows-more, rows-set, row-put, no-put, Filled}
+use Rattle.image.proofs.Laws.{Outside, unchanged, written, wider, past, part-same, kept, rows-local, rows-rest, rows-split, rows-set, row-put, no-put, Filled}
 use Rattle.image.proofs.Parts.{slot-local, record-local, variables-local, byte-local, channel-local, process-put, channel-put}
 
 -- ---- three bytes, and six
@@ -138,27 +138,22 @@ push-changed b n m y is l h e =
       slot-back m,
     )
 
-abbrev pub zeros : Three
-zeros = record { 0 = 0; 1 = 0; 2 = 0 }
-
 pub pop-changed : (b c : List ℕ) (n : ℕ) → byte lengthPlace b ≡ n → 0 < n → channelWidth ≤ length c
-    → ((k : ℕ) → k < 7 * messageWidth → getD c k 0 ≡ getD b (messageWidth + k) 0)
-    → channelIn (withThree (set c lengthPlace (n - 1)) (7 * messageWidth) zeros) ≡ popped (channelIn b)
-unfolding channelIn popped pick messageBytes
-pop-changed b c n is l h moved =
+    → ((k : ℕ) → k < 7 * messageWidth → getD c k 0 ≡ getD b (messageWidth + k) 0) → Outside 0 (7 * messageWidth) b c
+    → channelIn (set c lengthPlace (n - 1)) ≡ popped (channelIn b)
+unfolding channelIn popped pick
+pop-changed b c n is l h moved o =
     let d = set c lengthPlace (n - 1) in
-    let o = three-outside d (7 * messageWidth) zeros in
+    let same : (k : ℕ) → k < lengthPlace → getD d k 0 ≡ getD c k 0 = λ k u. getD-set-other c lengthPlace k (n - 1) 0 (λ e. omega arith) in
     rw (
       is,
       lt-ltb 0 n l,
-      o .after lengthPlace (omega arith),
       getD-set-same c lengthPlace (n - 1) 0 (omega arith),
-      rows-rest slotIn messageWidth 7 b,
-      rows-more slotIn messageWidth 7 (withThree d (7 * messageWidth) zeros),
-      three-written d (7 * messageWidth) zeros (messageBytes (blank .message)) refl (simp length-set (omega arith)),
-      slot-back (blank .message),
-      rows-local slotIn messageWidth slot-local 7 (drop messageWidth b) (withThree d (7 * messageWidth) zeros)
-          (λ k u. o .before k u ∙ getD-set-other c lengthPlace k (n - 1) 0 (λ e. omega arith) ∙ moved k u ∙ sym (getD-drop messageWidth b k 0)),
+      rows-rest slotIn messageWidth 7 1 b,
+      rows-rest slotIn messageWidth 1 7 b,
+      rows-split slotIn messageWidth 1 7 d,
+      rows-local slotIn messageWidth slot-local 7 (drop messageWidth b) d (λ k u. same k (omega arith) ∙ moved k u ∙ sym (getD-drop messageWidth b k 0)),
+      part-same (rows-local slotIn messageWidth slot-local 1) (7 * messageWidth) b d (λ k u v. same k v ∙ o .after k u),
     )
 
 pub clear-changed : (c : List ℕ) → ((k : ℕ) → k < channelWidth → getD c k 0 ≡ 0) → channelIn c ≡ emptyChannel
@@ -237,16 +232,16 @@ module _ (b : List ℕ) (q p r : ℕ) (row : RowAt channelsPlace channelWidth 64
 
   -- the others move up by one
   pub pop-put : (c : List ℕ) → 0 < byte (r + lengthPlace) b → Filled r (7 * messageWidth) (λ k. byte (r + (messageWidth + k)) b) b c
-      → systemIn (withThree (set c (r + lengthPlace) (byte (r + lengthPlace) b - 1)) (r + 7 * messageWidth) zeros)
-      ≡ withChannel (systemIn b) q p (popped (channelAt (systemIn b) q p))
+      → systemIn (set c (r + lengthPlace) (byte (r + lengthPlace) b - 1)) ≡ withChannel (systemIn b) q p (popped (channelAt (systemIn b) q p))
   pop-put c l f =
       let n = byte (r + lengthPlace) b in
       channel-put b q p r row _ h (simp length-set (f .long))
-      (three-within _ zeros (omega arith) (omega arith) (written (r + lengthPlace) (n - 1) (omega arith) (omega arith) (wider (omega arith) (f .outside))))
+      (written (r + lengthPlace) (n - 1) (omega arith) (omega arith) (wider (omega arith) (f .outside)))
       popped
-      (ap channelIn (three-past _ r (7 * messageWidth) zeros ∙ ap (λ d. withThree d (7 * messageWidth) zeros) (drop-set-add r c lengthPlace (n - 1)))
+      (ap channelIn (drop-set-add r c lengthPlace (n - 1))
       ∙ pop-changed (drop r b) (drop r c) n (getD-drop r b lengthPlace 0) l (channel-long c (f .long))
-      (λ k u. getD-drop r c k 0 ∙ f .inside k u ∙ sym (getD-drop r b (messageWidth + k) 0)))
+      (λ k u. getD-drop r c k 0 ∙ f .inside k u ∙ sym (getD-drop r b (messageWidth + k) 0))
+      (past r (f .outside) (sym (add-zero r)) refl))
 
   pub empty-put : byte (r + lengthPlace) b ≤ 0 → systemIn b ≡ withChannel (systemIn b) q p (popped (channelAt (systemIn b) q p))
   unfolding channelIn popped pick

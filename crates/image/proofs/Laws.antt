@@ -1,9 +1,9 @@
 -- Laws of rows of bytes: what is read of them, and what they are after a change of one.
 use Prim.Native.Nat.{ℕ, zero, suc, _+_, _*_, _≤_, _<_}
 use mathlib.Core.Path.{_≡_, refl, sym, _∙_, ap}
-use mathlib.Core.List.{List, [], _∷_, _++_, append-nil}
+use mathlib.Core.List.{List, _++_, append-nil}
 use mathlib.Core.Logic.{_⊎_, inr, ⊎-elim}
-use native.Mathlib.Nat.{add-comm, mul-suc, mul-zero, le-of-suc-le-suc, not-suc-le-zero}
+use native.Mathlib.Nat.{add-zero, add-suc, add-comm, mul-suc, mul-zero, le-of-suc-le-suc, not-suc-le-zero}
 use native.Mathlib.Omega.{arith}
 use lib.ListN.{length, getD, set, take, drop, length-set}
 use lib.Seq.{getD-set-same, getD-set-other, getD-drop, drop-drop, take-length, drop-length}
@@ -83,15 +83,16 @@ module _ {A : Type 0} (f : List ℕ → A) (w : ℕ) where
       let e = next-width w n in
       rw (local b c (λ k l. h k (omega arith)), part-same (rows-local local n) w b c (λ k l u. h k (omega arith)))
 
-  -- all but the first; and one more at the end
-  pub rows-rest : (n : ℕ) (b : List ℕ) → drop 1 (rows (suc n) w f b) ≡ rows n w f (drop w b)
+  -- all but the first k; and the first k before them
+  pub rows-rest : (n k : ℕ) (b : List ℕ) → drop k (rows (n + k) w f b) ≡ rows n w f (drop (w * k) b)
   unfolding rows
-  rows-rest n b = refl
+  rows-rest n zero b = rw (add-zero n, mul-zero w)
+  rows-rest n (suc k) b = rw (add-suc n k) (rows-rest n k (drop w b) ∙ rw (drop-drop (w * k) w b, ← next-width w k))
 
-  pub rows-more : (n : ℕ) (b : List ℕ) → rows (suc n) w f b ≡ rows n w f b ++ (f (drop (w * n) b) ∷ [])
+  pub rows-split : (n k : ℕ) (b : List ℕ) → rows (n + k) w f b ≡ rows k w f b ++ rows n w f (drop (w * k) b)
   unfolding rows
-  rows-more zero b = rw (mul-zero w)
-  rows-more (suc n) b = rw (rows-more n (drop w b), drop-drop (w * n) w b, ← next-width w n)
+  rows-split n zero b = rw (add-zero n, mul-zero w)
+  rows-split n (suc k) b = rw (add-suc n k, rows-split n k (drop w b), drop-drop (w * k) w b, ← next-width w k)
 
   -- the rows after a change of row k
   pub rows-set : Local w f → (n k : ℕ) (b c : List ℕ) → k < n → Outside (w * k) (w * k + w) b c → rows n w f c ≡ set (rows n w f b) k (f (drop (w * k) c))

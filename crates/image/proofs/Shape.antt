@@ -4,7 +4,7 @@ use Prim.Native.Nat.{ℕ, zero, suc}
 use mathlib.Core.Path.{_≡_, refl, ap}
 use mathlib.Core.List.{List, []}
 use lib.ListN.{length, drop}
-use Rattle.view.specs.Logic.{pick, at}
+use Rattle.view.specs.Logic.{at}
 use Rattle.view.proofs.Laws.{by-pick}
 use Rattle.channel.specs.declared.Channel.{Channel}
 use Rattle.channel.specs.Channel.{emptyChannel}

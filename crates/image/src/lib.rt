@@ -336,7 +336,7 @@ pub fn push(image: &mut [u8], q: ProcessId, p: ProcessId, m: Message)
     }
 }
 
-// The oldest message comes off that channel: the others move up.
+// The oldest message comes off that channel: the others move up, and the last slot stays as it was.
 pub fn pop(image: &mut [u8], q: ProcessId, p: ProcessId)
     ensures { λ r. ⌜ Becomes (withChannel (systemIn (now (image .entry))) (q .0) (p .0) (popped (channelAt (systemIn (now (image .entry))) (q .0) (p .0)))) (now (image .entry)) (now (image .exit)) ⌝ }
 {
@@ -350,7 +350,6 @@ pub fn pop(image: &mut [u8], q: ProcessId, p: ProcessId)
                 i += 1;
             }
             image[base + LENGTH] = len - 1;
-            put_three(image, base + 7 * MESSAGE, Three(0, 0, 0));
         }
     }
 }

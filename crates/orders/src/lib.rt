@@ -153,14 +153,14 @@ fn try_move(image: &[u8], copied: &mut [u8], action: Action) -> bool
     ensures { λ r. ⌜ Tries action (systemIn (now (image .entry))) r (now (copied .exit)) ⌝ }
 {
     bytes::copy(image, copied);
-    let done = attempt(
+    let refusal = attempt(
         copied,
         Step {
             action,
             cut: Cut::Whole,
         },
     );
-    done.refusal == 0
+    refusal == 0
 }
 
 // The runs of so many turns more, the link's first: it passes, or makes one of its moves.

@@ -1,6 +1,6 @@
 -- A step is an action, whole or cut. S-2: "Mains also fails inside a step, after the third message of five."
 use Prim.Native.Nat.{ℕ}
-use mathlib.Core.Bool.{true}
+use mathlib.Core.Bool.{Bool, true, false}
 use lib.Dec.{ltb, eqb}
 use Rattle.view.specs.Logic.{unless}
 use Rattle.view.specs.View.{countOf, firstOf}
@@ -9,6 +9,7 @@ use Rattle.plan.specs.declared.Cut.{Cut}
 use Rattle.plan.specs.declared.Cut.the-variants.{Whole, After}
 use Rattle.plan.specs.declared.Step.{Step}
 use Rattle.plan.specs.declared.Plan.{Plan}
+use Rattle.plan.specs.declared.Reach.{Reach}
 use Rattle.plan.specs.Plan.{plan, refusing}
 
 abbrev pub whole : Action → Step
@@ -25,6 +26,19 @@ cutShort k a =
     unless (eqb (a .refusal) 0) a
     (unless (ltb k (countOf (a .addressees))) (refusing 12 (a .change .variables))
     (plan 0 (a .change) true (firstOf k (a .addressees)) (a .message) (a .suspects)))
+
+-- to whom the message of a step goes, of these processes: to all; or to the first k, and then the process stops; refusal 12 where k is
+-- not below their number
+unfoldable pub reachOf : Cut → ℕ → Reach
+reachOf Whole to = record { refusal = 0; addressees = to; stops = false }
+reachOf (After k) to =
+    unless (ltb k (countOf to)) (record { refusal = 12; addressees = 0; stops = false })
+    (record { refusal = 0; addressees = firstOf k to; stops = true })
+
+-- all of the step is done
+unfoldable pub isWhole : Cut → Bool
+isWhole Whole = true
+isWhole (After k) = false
 
 -- the plan of a step, whose action has the plan a
 unfoldable pub cutBy : Cut → Plan → Plan

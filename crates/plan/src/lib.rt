@@ -1,13 +1,15 @@
-// What the acting process does: Figure 3, guarded command by guarded command; and how a step is cut.
+// Figure 3, guarded command by guarded command: which alternative the acting process takes; and how a step
+// is cut.
+ghost use Prim.Native.Nat.{ℕ};
 ghost use mathlib.Core.Path.{_≡_};
+ghost use mathlib.Core.Bool.{true};
 ghost use lib.Dec.{eqb};
 ghost use Rattle.view.specs.Logic.{pick};
 ghost use Rattle.view.specs.View.{with};
-ghost use Rattle.system.specs.Process.{assigned};
 ghost use Rattle.plan.specs.Fields.{withView, withNext, withAcks, proposing, reproposing};
-ghost use Rattle.plan.specs.Plan.{assigning, recording, entering, sending, quietly, refusing, doubting, newViewPlan, reportPlan, committingPlan, messagePlan, receivePlan, respondPlan, crashPlan};
-ghost use Rattle.plan.specs.Scope.{scopeOf};
-ghost use Rattle.plan.specs.Cut.{cutShort, cutBy};
+ghost use Rattle.plan.specs.Plan.{newViewPlan, reportPlan, committingPlan, messagePlan, receivePlan, respondPlan};
+ghost use Rattle.plan.specs.Choice.{reportedPlan, reportNumbered, receivedPlan, receiveNumbered, respondedPlan, respondNumbered};
+ghost use Rattle.plan.specs.Cut.{isWhole, reachOf};
 use channel::Front;
 use channel::Message;
 use system::Pending;
@@ -24,7 +26,6 @@ use view::GroupIndex;
 use view::ProcessId;
 use view::and;
 use view::count;
-use view::everyone;
 use view::first_of;
 use view::has;
 use view::least;
@@ -69,33 +70,6 @@ pub struct Scope {
     pub takes: bool,
 }
 
-pub fn scope_of(o: Action) -> Scope
-    ensures { λ r. ⌜ r ≡ scopeOf o ⌝ }
-{
-    match o {
-        Action::Report(p, view) => Scope {
-            actor: p,
-            partner: p,
-            takes: false,
-        },
-        Action::Receive(q, p) => Scope {
-            actor: p,
-            partner: q,
-            takes: true,
-        },
-        Action::Respond(p, q) => Scope {
-            actor: p,
-            partner: q,
-            takes: false,
-        },
-        Action::Crash(p) => Scope {
-            actor: p,
-            partner: p,
-            takes: false,
-        },
-    }
-}
-
 // What becomes of the acting process: its variables; what it has recorded from the proposer, where
 // that is not 0; its history's entry at the index, where that is not 0.
 pub struct Change {
@@ -118,83 +92,7 @@ pub struct Plan {
     pub suspects: u8,
 }
 
-// The variables change.
-fn assigning(x: Variables) -> Change
-    ensures { λ r. ⌜ r ≡ assigning x ⌝ }
-{
-    recording(x, ProcessId(0), Pending::Nothing)
-}
-
-// The variables change, and what is recorded from process q.
-fn recording(x: Variables, q: ProcessId, pending: Pending) -> Change
-    ensures { λ r. ⌜ r ≡ recording x q pending ⌝ }
-{
-    Change {
-        variables: x,
-        proposer: q,
-        pending,
-        index: GroupIndex(0),
-        entry: 0,
-    }
-}
-
-// The history changes at an index.
-fn entering(x: Variables, i: GroupIndex, view: u8) -> Change
-    ensures { λ r. ⌜ r ≡ entering x (i .0) view ⌝ }
-{
-    Change {
-        variables: x,
-        proposer: ProcessId(0),
-        pending: Pending::Nothing,
-        index: i,
-        entry: view,
-    }
-}
-
-// The process changes so; m goes to each process of the view.
-fn sending(change: Change, to: u8, m: Message) -> Plan
-    ensures { λ r. ⌜ r ≡ sending change to m ⌝ }
-{
-    Plan {
-        refusal: 0,
-        change,
-        stops: false,
-        addressees: to,
-        message: m,
-        suspects: 0,
-    }
-}
-
-// The process changes so, and nothing is sent.
-fn quietly(change: Change) -> Plan
-    ensures { λ r. ⌜ r ≡ quietly change ⌝ }
-{
-    sending(change, 0, Message::Propose(0, GroupIndex(0)))
-}
-
-fn refusing(k: u8, x: Variables) -> Plan
-    ensures { λ r. ⌜ r ≡ refusing k x ⌝ }
-{
-    Plan {
-        refusal: k,
-        change: assigning(x),
-        stops: false,
-        addressees: 0,
-        message: Message::Propose(0, GroupIndex(0)),
-        suspects: 0,
-    }
-}
-
-// The same plan, by which the process suspects those of a set.
-fn doubting(suspects: u8, a: Plan) -> Plan
-    ensures { λ r. ⌜ r ≡ doubting suspects a ⌝ }
-{
-    let mut b = a;
-    b.suspects = suspects;
-    b
-}
-
-fn with_view(x: Variables, view: u8) -> Variables
+pub fn with_view(x: Variables, view: u8) -> Variables
     ensures { λ r. ⌜ r ≡ withView x view ⌝ }
 {
     let mut y = x;
@@ -202,7 +100,7 @@ fn with_view(x: Variables, view: u8) -> Variables
     y
 }
 
-fn with_next(x: Variables, next: GroupIndex) -> Variables
+pub fn with_next(x: Variables, next: GroupIndex) -> Variables
     ensures { λ r. ⌜ r ≡ withNext x (next .0) ⌝ }
 {
     let mut y = x;
@@ -210,7 +108,7 @@ fn with_next(x: Variables, next: GroupIndex) -> Variables
     y
 }
 
-fn with_acks(x: Variables, acks: u8) -> Variables
+pub fn with_acks(x: Variables, acks: u8) -> Variables
     ensures { λ r. ⌜ r ≡ withAcks x acks ⌝ }
 {
     let mut y = x;
@@ -219,7 +117,7 @@ fn with_acks(x: Variables, acks: u8) -> Variables
 }
 
 // The view becomes the local and the last proposed view, proposed at index i.
-fn proposing(x: Variables, view: u8, i: GroupIndex) -> Variables
+pub fn proposing(x: Variables, view: u8, i: GroupIndex) -> Variables
     ensures { λ r. ⌜ r ≡ proposing x view (i .0) ⌝ }
 {
     let mut y = x;
@@ -231,7 +129,7 @@ fn proposing(x: Variables, view: u8, i: GroupIndex) -> Variables
 }
 
 // The local view is proposed again, at index i.
-fn reproposing(x: Variables, i: GroupIndex) -> Variables
+pub fn reproposing(x: Variables, i: GroupIndex) -> Variables
     ensures { λ r. ⌜ r ≡ reproposing x (i .0) ⌝ }
 {
     let mut y = x;
@@ -240,183 +138,185 @@ fn reproposing(x: Variables, i: GroupIndex) -> Variables
     y
 }
 
-// Process p of n is told a view that names it and brings back only whom it may trust again.
-fn new_view_plan(n: u8, p: ProcessId, view: u8, x: Variables) -> Plan
-    ensures { λ r. ⌜ r ≡ newViewPlan n (p .0) view x ⌝ }
+// What becomes of a report: it is refused with this number; the process only takes the view over; or it
+// proposes the view at the index.
+pub enum ReportChoice {
+    Refuse(u8),
+    Adopt,
+    ProposeAt(GroupIndex),
+}
+
+// What becomes of a message that is taken: the step is refused with this number and it stays; the
+// proposal is recorded; nothing else changes; these have acknowledged; all have, and the Commit goes
+// out; the local view is proposed again at the index; the view is entered at the index.
+pub enum ReceiveChoice {
+    Refuse(u8),
+    Record(u8, GroupIndex),
+    Skip,
+    Mark(u8),
+    CommitAll,
+    ProposeAgain(GroupIndex),
+    Enter(u8, GroupIndex),
+}
+
+// What becomes of an answer: it is refused with this number; or Next becomes this and the message goes
+// to the proposer.
+pub enum RespondChoice {
+    Refuse(u8),
+    Reply(GroupIndex, Message),
+}
+
+// Process p is told a view that names it and brings back only whom it may trust again.
+fn new_view(p: ProcessId, view: u8, x: Variables) -> ReportChoice
+    ensures { λ r. ⌜ ((n : ℕ) → reportedPlan n view x r ≡ newViewPlan n (p .0) view x) × (reportNumbered r ≡ true) ⌝ }
 {
-    let suspects = minus(everyone(n), view);
     if least(view).0 == p.0 {
         if x.propout.0 < 32 {
-            let i = GroupIndex(x.propout.0 + 1);
-            let full = sending(
-                assigning(proposing(x, view, i)),
-                view,
-                Message::Propose(view, i),
-            );
-            doubting(suspects, full)
+            ReportChoice::ProposeAt(GroupIndex(x.propout.0 + 1))
         } else {
-            refusing(HISTORY_FULL, x)
+            ReportChoice::Refuse(HISTORY_FULL)
         }
     } else {
-        doubting(suspects, quietly(assigning(with_view(x, view))))
+        ReportChoice::Adopt
     }
 }
 
 // First guarded command: process p of n, which may trust some others again, is told a view.
-pub fn report_plan(n: u8, p: ProcessId, view: u8, x: Variables, trust: u8) -> Plan
-    ensures { λ r. ⌜ r ≡ reportPlan n (p .0) view x trust ⌝ }
+pub fn report_choice(n: u8, p: ProcessId, view: u8, x: Variables, trust: u8) -> ReportChoice
+    ensures { λ r. ⌜ (reportedPlan n view x r ≡ reportPlan n (p .0) view x trust) × (reportNumbered r ≡ true) ⌝ }
 {
     if and(within(n, view), has(view, p)) {
         if subset(minus(view, x.view), trust) {
-            new_view_plan(n, p, view, x)
+            new_view(p, view, x)
         } else {
-            refusing(EARLY_TRUST, x)
+            ReportChoice::Refuse(EARLY_TRUST)
         }
     } else {
-        refusing(ODD_VIEW, x)
+        ReportChoice::Refuse(ODD_VIEW)
     }
 }
 
-// The mark of an Acc from process q for index i, where PropOut is that index.
-fn marked(q: ProcessId, x: Variables, i: GroupIndex) -> Variables
-    ensures { λ r. ⌜ r ≡ pick (eqb (x .propout .0) (i .0)) (withAcks x (with (x .acks) (q .0))) x ⌝ }
+// Those who have acknowledged, with process q, where its Acc is for PropOut.
+fn marked(q: ProcessId, x: Variables, i: GroupIndex) -> u8
+    ensures { λ r. ⌜ r ≡ pick (eqb (x .propout .0) (i .0)) (with (x .acks) (q .0)) (x .acks) ⌝ }
 {
     if x.propout.0 == i.0 {
-        with_acks(x, with(x.acks, q))
+        with(x.acks, q)
     } else {
-        x
+        x.acks
     }
 }
 
 // After the mark: Commit, once all of the last proposed view have acknowledged.
-fn committing_plan(x: Variables) -> Plan
-    ensures { λ r. ⌜ r ≡ committingPlan x ⌝ }
+fn committing(x: Variables, acks: u8) -> ReceiveChoice
+    ensures { λ r. ⌜ ((q : ProcessId) → receivedPlan q x r ≡ committingPlan (withAcks x acks)) × (receiveNumbered r ≡ true) ⌝ }
 {
     let view = x.proposal;
-    if and(view != 0, subset(view, x.acks)) {
-        let i = x.propout;
-        sending(assigning(with_acks(x, 0)), view, Message::Commit(view, i))
+    if and(view != 0, subset(view, acks)) {
+        ReceiveChoice::CommitAll
     } else {
-        quietly(assigning(x))
+        ReceiveChoice::Mark(acks)
     }
 }
 
 // Process p takes the message m of process q.
-fn message_plan(q: ProcessId, p: ProcessId, x: Variables, m: Message) -> Plan
-    ensures { λ r. ⌜ r ≡ messagePlan q (p .0) x m ⌝ }
+fn message_choice(q: ProcessId, p: ProcessId, x: Variables, m: Message) -> ReceiveChoice
+    ensures { λ r. ⌜ (receivedPlan q x r ≡ messagePlan q (p .0) x m) × (receiveNumbered r ≡ true) ⌝ }
 {
     match m {
-        Message::Propose(v, i) => quietly(recording(x, q, Pending::Proposal(v, i))),
+        Message::Propose(v, i) => ReceiveChoice::Record(v, i),
         Message::Retry(old, new) => {
-            let view = x.view;
-            if and(x.propout.0 == old.0, least(view).0 == p.0) {
+            if and(x.propout.0 == old.0, least(x.view).0 == p.0) {
                 if new.0 <= 32 {
-                    sending(
-                        assigning(reproposing(x, new)),
-                        view,
-                        Message::Propose(view, new),
-                    )
+                    ReceiveChoice::ProposeAgain(new)
                 } else {
-                    refusing(HISTORY_FULL, x)
+                    ReceiveChoice::Refuse(HISTORY_FULL)
                 }
             } else {
-                quietly(assigning(x))
+                ReceiveChoice::Skip
             }
         }
-        Message::Acc(i) => committing_plan(marked(q, x, i)),
-        Message::Commit(v, i) => quietly(entering(x, i, v)),
+        Message::Acc(i) => committing(x, marked(q, x, i)),
+        Message::Commit(v, i) => ReceiveChoice::Enter(v, i),
     }
 }
 
 // Second guarded command: process p takes the oldest message of process q, if one waits.
-pub fn receive_plan(q: ProcessId, p: ProcessId, x: Variables, front: Front) -> Plan
-    ensures { λ r. ⌜ r ≡ receivePlan q (p .0) x front ⌝ }
+pub fn receive_choice(q: ProcessId, p: ProcessId, x: Variables, front: Front) -> ReceiveChoice
+    ensures { λ r. ⌜ (receivedPlan q x r ≡ receivePlan q (p .0) x front) × (receiveNumbered r ≡ true) ⌝ }
 {
     match front {
-        Front::Nothing => refusing(NOTHING_THERE, x),
-        Front::Waiting(m) => message_plan(q, p, x, m),
+        Front::Nothing => ReceiveChoice::Refuse(NOTHING_THERE),
+        Front::Waiting(m) => message_choice(q, p, x, m),
     }
 }
 
-// Third guarded command: the proposal recorded from process q is answered.
-pub fn respond_plan(q: ProcessId, x: Variables, pending: Pending) -> Plan
-    ensures { λ r. ⌜ r ≡ respondPlan q x pending ⌝ }
+// Third guarded command: what is recorded from a process is answered.
+pub fn respond_choice(x: Variables, pending: Pending) -> RespondChoice
+    ensures { λ r. ⌜ ((q : ProcessId) → respondedPlan q x r ≡ respondPlan q x pending) × (respondNumbered r ≡ true) ⌝ }
 {
     match pending {
-        Pending::Nothing => refusing(NO_RECORD, x),
+        Pending::Nothing => RespondChoice::Refuse(NO_RECORD),
         Pending::Proposal(v, i) => {
             let next = x.next;
             if v == x.view {
                 if i.0 < next.0 {
-                    sending(
-                        recording(x, q, Pending::Nothing),
-                        with(0, q),
-                        Message::Retry(i, next),
-                    )
+                    RespondChoice::Reply(next, Message::Retry(i, next))
                 } else if i.0 <= 32 {
-                    let y = with_next(x, GroupIndex(i.0 + 1));
-                    sending(
-                        recording(y, q, Pending::Nothing),
-                        with(0, q),
-                        Message::Acc(i),
-                    )
+                    RespondChoice::Reply(GroupIndex(i.0 + 1), Message::Acc(i))
                 } else {
                     // No sound system has such a record.
-                    refusing(UNSOUND, x)
+                    RespondChoice::Refuse(UNSOUND)
                 }
             } else {
-                refusing(OTHER_VIEW, x)
+                RespondChoice::Refuse(OTHER_VIEW)
             }
         }
     }
 }
 
-// A stop: nothing changes but that the process stops, and nothing is sent.
-pub fn crash_plan(x: Variables) -> Plan
-    ensures { λ r. ⌜ r ≡ crashPlan x ⌝ }
-{
-    Plan {
-        refusal: 0,
-        change: assigning(x),
-        stops: true,
-        addressees: 0,
-        message: Message::Propose(0, GroupIndex(0)),
-        suspects: 0,
-    }
-}
-
-// The plan, cut after its first k messages: then the process stops.
-fn cut_short(k: u8, a: Plan) -> Plan
-    ensures { λ r. ⌜ r ≡ cutShort k a ⌝ }
-{
-    let change = a.change;
-    let to = a.addressees;
-    let m = a.message;
-    if a.refusal == 0 {
-        if k < count(to) {
-            Plan {
-                refusal: 0,
-                change,
-                stops: true,
-                addressees: first_of(k, to),
-                message: m,
-                suspects: a.suspects,
-            }
-        } else {
-            let x = change.variables;
-            refusing(CUT_TOO_LATE, x)
-        }
-    } else {
-        a
-    }
-}
-
-// The plan of a step, whose action has this plan.
-pub fn cut_by(cut: Cut, a: Plan) -> Plan
-    ensures { λ r. ⌜ r ≡ cutBy cut a ⌝ }
+// Is all of the step done?
+pub fn is_whole(cut: Cut) -> bool
+    ensures { λ r. ⌜ r ≡ isWhole cut ⌝ }
 {
     match cut {
-        Cut::Whole => a,
-        Cut::After(k) => cut_short(k, a),
+        Cut::Whole => true,
+        Cut::After(k) => false,
+    }
+}
+
+// To whom the message of a step goes: it is refused with this number; or, at 0, it goes to these, and
+// then the process stops or not.
+pub struct Reach {
+    pub refusal: u8,
+    pub addressees: u8,
+    pub stops: bool,
+}
+
+// The reach of a message to these processes.
+pub fn reach_of(cut: Cut, to: u8) -> Reach
+    ensures { λ r. ⌜ r ≡ reachOf cut to ⌝ }
+{
+    match cut {
+        Cut::Whole => Reach {
+            refusal: 0,
+            addressees: to,
+            stops: false,
+        },
+        Cut::After(k) => {
+            if k < count(to) {
+                Reach {
+                    refusal: 0,
+                    addressees: first_of(k, to),
+                    stops: true,
+                }
+            } else {
+                Reach {
+                    refusal: CUT_TOO_LATE,
+                    addressees: 0,
+                    stops: false,
+                }
+            }
+        }
     }
 }

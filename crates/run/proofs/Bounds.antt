@@ -1,9 +1,9 @@
 -- What is printed for a sheet is never longer than 603,400 bytes: at most 10 for each byte of the lines after the first and their line
 -- feeds, of which there are less than 60,000; and the processes' lines.
-use Prim.Native.Nat.{ℕ, suc, max, _+_, _*_, _≤_, _<_}
-use mathlib.Core.Path.{_≡_, refl, sym, ap}
-use mathlib.Core.Bool.{Bool, true, false, _&&_, _||_}
-use mathlib.Core.List.{List, [], _∷_, _++_}
+use Prim.Native.Nat.{ℕ, suc, _+_, _*_, _≤_, _<_}
+use mathlib.Core.Path.{_≡_, refl, sym}
+use mathlib.Core.Bool.{Bool, true, _&&_}
+use mathlib.Core.List.{List, [], _∷_}
 use mathlib.Core.Logic.{⊎-elim}
 use native.Mathlib.Omega.{arith}
 use borrow.Author.Tests.{ltb-true, ltb-false, eqb-true}
@@ -20,7 +20,7 @@ use Rattle.settle.specs.declared.Ending.the-variants.{Rest, Held, Budget}
 use Rattle.settle.specs.Settle.{settled, settledTally}
 use Rattle.settle.proofs.Within.{settled-steps, settled-number}
 use Rattle.print.specs.Text.{bytes}
-use Rattle.print.specs.Print.{threeNumbers, numberedLine, columnLine}
+use Rattle.print.specs.Print.{threeNumbers, columnLine}
 use Rattle.print.proofs.Bounds.{numbered-length, three-length, column-length, units-length}
 use Rattle.sheet.specs.declared.parse.Opening.{Opening}
 use Rattle.sheet.specs.declared.parse.Opening.the-variants.{Bad as BadFirst, Fresh}
@@ -33,7 +33,7 @@ use Rattle.sheet.proofs.Forms.{column-from-1}
 use Rattle.sheet.proofs.FirstBytes.{nothing-said}
 use Rattle.sheet.proofs.GoodLines.{bad-first-column, bad-column}
 use Rattle.view.specs.Logic.{at}
-use Rattle.run.specs.Output.{badLine, Printed, answered, endingText, settledAs, lineDone, printedThen, printedFrom, badFrom, startedBy, linesOutput, output}
+use Rattle.run.specs.Output.{badLine, answered, endingText, settledAs, lineDone, printedThen, printedFrom, badFrom, startedBy, linesOutput, output}
 
 -- ---- every number has at most two digits
 unfoldable below : ℕ → List ℕ → Bool

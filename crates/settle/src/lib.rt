@@ -11,7 +11,7 @@ ghost use Rattle.image.specs.Image.{imageWidth, systemIn};
 ghost use Rattle.settle.specs.Settle.{moveOf, tried, triedAt, halfDone, roundDone, roundsDone, nothingToDo, endingOf, Settles};
 ghost use Rattle.settle.specs.declared.Ending.the-variants.{Rest, Held};
 ghost use Rattle.settle.specs.Advances.{Advances, progressIn, nothingDone, withStep};
-use engine::attempt;
+use counting::attempt_tallied;
 use image::length_at;
 use image::pending_at;
 use image::size;
@@ -104,7 +104,7 @@ fn try_one(image: &mut [u8], budget: u16, done: StepsDone, action: Action) -> St
     ensures { λ r. ⌜ Advances budget (tried budget action) done (now (image .entry)) r (now (image .exit)) ⌝ }
 {
     if done.steps < budget {
-        let a = attempt(
+        let a = attempt_tallied(
             image,
             Step {
                 action,

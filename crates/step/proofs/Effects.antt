@@ -5,7 +5,6 @@ use mathlib.Core.Bool.{Bool, true, false}
 use mathlib.Core.List.{List, _∷_}
 use Rattle.view.specs.View.{has}
 use Rattle.view.proofs.Laws.{Each, each-end, by-number, each-put}
-use Rattle.view.proofs.Sets.{has-none}
 use Rattle.channel.specs.declared.Message.{Message}
 use Rattle.system.specs.declared.Pending.{Pending}
 use Rattle.system.specs.declared.Pending.the-variants.{Nothing}
@@ -15,7 +14,6 @@ use Rattle.system.specs.declared.System.{System}
 use Rattle.system.specs.Process.{entryAt, withEntry, pendingAt, pendingSlot}
 use Rattle.system.specs.System.{processAt, variablesAt}
 use Rattle.plan.specs.declared.Change.{Change}
-use Rattle.plan.specs.Plan.{noMessage}
 use Rattle.step.proofs.Cases.{waitingAt, Taken, afterwards, stays, grows, empties, Effect}
 
 -- ---- what is left of the messages
@@ -69,14 +67,6 @@ module _ {s t : System} {left : ℕ → ℕ → List Message} {p : ℕ} {c : Cha
       → (a b : ℕ)
       → Each (R a b) (waitingAt t a b)
   each-message R old new a b = each-on (R a b) a b (old a b) (λ e named live. subst (λ (i : ℕ). R i b m) (sym e) (new b named live))
-
--- nothing is sent
-pub each-quiet : {s t : System} {left : ℕ → ℕ → List Message} {p : ℕ} {c : Change} {stops : Bool} (f : Effect s t left p c stops 0 noMessage)
-    (R : ℕ → ℕ → Message → Type 0)
-    → ((a b : ℕ) → Each (R a b) (left a b))
-    → (a b : ℕ)
-    → Each (R a b) (waitingAt t a b)
-each-quiet f R old = each-message f R old (λ b h. absurd (has-none b h))
 
 -- ---- the process that acted: what it has recorded from each process, and each entry
 pub each-pending : (P : ℕ → Pending → Type 0) (x : Process) (c : Change) (stops : Bool) → (1 ≤ c .proposer .0 → P (c .proposer .0) (c .pending))

@@ -1,11 +1,10 @@
 -- What every step answers: "the number 0 and the next table; or a refusal number and the same table back"; the number 1 only where the
 -- system is not sound; and a process that has stopped has stopped for good.
-use Prim.Native.Nat.{ℕ, _≤_}
+use Prim.Native.Nat.{ℕ}
 use mathlib.Core.Path.{_≡_, refl, sym, _∙_, ap, subst}
 use mathlib.Core.Bool.{Bool, true, false, _&&_, _||_, not}
 use mathlib.Core.List.{List, [], _∷_, _++_}
 use mathlib.Core.Logic.{_⊎_, inl, inr, ⊎-elim}
-use native.Mathlib.Omega.{arith}
 use borrow.Author.Tests.{le-leb}
 use lib.Dec.{leb, ltb, eqb}
 use Rattle.view.specs.declared.ProcessId.{ProcessId}

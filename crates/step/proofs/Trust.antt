@@ -1,17 +1,17 @@
 -- What a report does to each mark of S-5, and that nothing else changes one.
 use Prim.Native.Nat.{ℕ, zero, suc, _≤_, _<_}
 use mathlib.Core.Path.{_≡_, refl, sym, _∙_, ap, subst}
-use mathlib.Core.Bool.{Bool, true, false, _&&_, not}
+use mathlib.Core.Bool.{Bool, true, false, not}
 use mathlib.Core.List.{List}
 use native.Mathlib.Omega.{arith}
 use lib.ListN.{length}
-use Rattle.view.specs.Logic.{eachUpTo, at, put, isOneOf}
+use Rattle.view.specs.Logic.{eachUpTo, at, put}
 use Rattle.view.specs.View.{has, within, subset, minus, switched, everyone}
 use Rattle.view.proofs.Laws.{and-left, and-right, and-intro, one-of, is-one-of, at-put-same, at-put-other, length-put, by-pick, by-number, by-test, each-same, each-keeps, true-is-not-false}
 use Rattle.view.proofs.Sets.{has-number, has-none, has-inside, subset-has, has-minus, switched-same, switched-other, everyone-has}
 use Rattle.channel.specs.declared.Message.{Message}
 use Rattle.system.specs.declared.System.{System}
-use Rattle.system.specs.System.{processAt, variablesAt, withProcess, channelAt, withChannel, trustAt, mayTrust, withTrust, trusting, sent, sentIfNamed, broadcasted}
+use Rattle.system.specs.System.{processAt, variablesAt, withProcess, withChannel, trustAt, mayTrust, withTrust, trusting, sent, sentIfNamed, broadcasted}
 use Rattle.plan.specs.declared.Plan.{Plan}
 use Rattle.plan.specs.declared.Scope.{Scope}
 use Rattle.step.specs.Step.{takenOff, departed, suspectedIfNamed, doubted, changedAt, emptiedFrom, crashedAt, crashedIf, effected}

@@ -16,7 +16,7 @@ use Rattle.plan.specs.declared.Scope.{Scope}
 use Rattle.plan.specs.declared.Step.{Step}
 use Rattle.plan.specs.Scope.{scopeOf}
 use Rattle.plan.specs.Cut.{cutBy}
-use Rattle.step.specs.Step.{planOf, takenOff, placed, attempted, Event, does, happened, ran}
+use Rattle.step.specs.Step.{planOf, takenOff, attempted, Event, does, happened, ran}
 
 -- ---- messages that wait
 -- those on the channel from process q to process p
@@ -43,9 +43,10 @@ vanishesAt s to k = one (has to k && variablesAt s k .crashed)
 unfoldable pub vanished : System → ℕ → ℕ
 vanished s to = sumUpTo 8 (vanishesAt s to)
 
--- "lost to a stop (cleared by it, or sent to a stopped unit)": s is the system when the messages of process p's plan are placed
+-- "lost to a stop (cleared by it, or sent to a stopped unit)", where the plan of process p is carried out in t: cleared is what waits
+-- towards process p when it stops: what waits there in t, and the message that it sends to itself
 unfoldable pub lostAt : System → ℕ → Plan → ℕ
-lostAt s p a = vanished s (a .addressees) + pick (a .stops) (waitingTowards s p) 0
+lostAt t p a = vanished t (a .addressees) + pick (a .stops) (waitingTowards t p + one (has (a .addressees) p)) 0
 
 unfoldable pub isCommit : Message → Bool
 isCommit (Propose v i) = false
@@ -68,7 +69,7 @@ planCounts c a before lost =
 
 -- the plan is carried out in t, whose waiting messages are those that the step did not take
 unfoldable pub planTally : System → Scope → Plan → Tally
-planTally t c a = planCounts c a (variablesAt t (c .actor .0) .propout .0) (lostAt (placed t (c .actor .0) a) (c .actor .0) a)
+planTally t c a = planCounts c a (variablesAt t (c .actor .0) .propout .0) (lostAt t (c .actor .0) a)
 
 -- a step that is refused counts nothing
 unfoldable pub tallyIf : ℕ → Tally → Tally

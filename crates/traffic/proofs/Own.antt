@@ -1,5 +1,5 @@
 -- Why Commits of one proposal are sent once: what a process has on its channel to itself, and its own mark, by the index of the proposal.
-use Prim.Native.Nat.{ℕ, _+_, _*_, _≤_, _<_}
+use Prim.Native.Nat.{ℕ, _+_, _≤_, _<_}
 use mathlib.Core.Path.{_≡_, refl, sym, subst}
 use mathlib.Core.Bool.{Bool}
 use mathlib.Core.List.{List}

@@ -7,7 +7,7 @@ use native.Mathlib.Omega.{arith}
 use borrow.Author.Tests.{eqb-true, eqb-false, eq-eqb, ne-eqb}
 use lib.Dec.{eqb}
 use Rattle.view.specs.Logic.{pick, isOneOf}
-use Rattle.view.specs.View.{within, countOf}
+use Rattle.view.specs.View.{has, within, countOf}
 use Rattle.view.proofs.Laws.{by-pick, by-test, by-number, and-left, and-right}
 use Rattle.tallies.specs.declared.Tally.{Tally}
 use Rattle.tallies.specs.Tally.{noTally}
@@ -20,7 +20,7 @@ use Rattle.plan.specs.declared.Step.{Step}
 use Rattle.plan.specs.Scope.{scopeOf}
 use Rattle.plan.specs.Cut.{cutBy}
 use Rattle.step.specs.Step.{planOf, takenOff, placed, doubted, changedAt, crashedAt, crashedIf, effected, carriedOut, permitted, attempted, stepped, Event, does, happened}
-use Rattle.step.specs.Counts.{waitingIn, waitingTowards, one, vanished, lostAt, planTally, tallyIf, stepTally, eventTally}
+use Rattle.step.specs.Counts.{waitingIn, waitingTowards, one, vanishesAt, vanished, lostAt, planTally, tallyIf, stepTally, eventTally}
 use Rattle.step.proofs.Frames.{Numbered}
 use Rattle.step.proofs.Cases.{waitingAt, Known, Effect}
 use Rattle.step.proofs.Soundness.{Valid}
@@ -28,15 +28,15 @@ use Rattle.step.proofs.Carried.{Ready, doubted-ready, ready, sent-effect, sound
 use Rattle.step.proofs.Inversion.{sound-stepped, done-or-refused}
 use Rattle.step.proofs.Outcomes.{effected-size}
 use Rattle.traffic.proofs.Plans.{step-fits, cut-plain, message-found}
-use Rattle.traffic.proofs.Waiting.{waitingUpTo, towards-sized, waiting-sized, one-off, waits-once-told, waits-once-stopped}
+use Rattle.traffic.proofs.Waiting.{towardsUpTo, waitingUpTo, towards-sized, waiting-sized, one-off, own-told, waits-once-told, waits-once-stopped}
 
 -- ---- the plan of process p is carried out in u
 effected-waits : (n : ℕ) → n ≤ 8 → (s u : System) → s .n ≡ n → Ready s u → (p : ℕ) → Numbered p → p ≤ n → variablesAt s p .crashed ≡ false → (a : Plan)
     → a .change .variables .crashed ≡ false
     → roomFor u p (a .addressees) ≡ true
     → within n (a .addressees) ≡ true
-    → waitingUpTo n (effected u p a) + lostAt (placed u p a) p a ≡ waitingUpTo n u + countOf (a .addressees)
-unfolding effected lostAt changedAt crashedIf pick doubted withTrust channelAt roomFor takesIfNamed processAt
+    → waitingUpTo n (effected u p a) + lostAt u p a ≡ waitingUpTo n u + countOf (a .addressees)
+unfolding effected lostAt vanished vanishesAt changedAt crashedIf pick doubted withTrust channelAt roomFor takesIfNamed processAt
 effected-waits n small s u size r p from high live a calm room inside = by-stop (a .stops)
   where
     w : System
@@ -48,13 +48,16 @@ effected-waits n small s u size r p from high live a calm room inside = by-stop 
     f : Effect s w (waitingAt (doubted u p (a .suspects))) p (a .change) false (a .addressees) (a .message)
     f = sent-effect s (doubted u p (a .suspects)) before p from live (a .change) calm (a .addressees) (a .message) room
 
-    told : waitingUpTo n w + vanished w (a .addressees) ≡ waitingUpTo n u + countOf (a .addressees)
+    told : waitingUpTo n w + vanished u (a .addressees) ≡ waitingUpTo n u + countOf (a .addressees)
     told = waits-once-told n small s (doubted u p (a .suspects)) before p from high live (a .change) calm (a .addressees) (a .message) room inside
 
+    own : towardsUpTo n w p ≡ towardsUpTo n u p + one (has (a .addressees) p)
+    own = own-told n small s (doubted u p (a .suspects)) before p from high live (a .change) calm (a .addressees) (a .message) room inside
+
     by-stop : (stops : Bool)
-        → waitingUpTo n (pick stops (crashedAt w p) w) + (vanished w (a .addressees) + pick stops (waitingTowards w p) 0)
+        → waitingUpTo n (pick stops (crashedAt w p) w) + (vanished u (a .addressees) + pick stops (waitingTowards u p + one (has (a .addressees) p)) 0)
         ≡ waitingUpTo n u + countOf (a .addressees)
-    by-stop true = omega (arith, told, waits-once-stopped n f from high, towards-sized n w (f .size ∙ size) p)
+    by-stop true = omega (arith, told, own, waits-once-stopped n f from high, towards-sized n u (r .frame .size ∙ size) p)
     by-stop false = omega (arith, told)
 
 -- ---- the message comes off, where the step takes one

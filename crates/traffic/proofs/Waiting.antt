@@ -81,10 +81,8 @@ module _ (n : ℕ) (small : n ≤ 8) (s u : System) (ready : Ready s u) (p : ℕ
   abbrev after : System
   after = broadcasted (withProcess u p (changed (processAt u p) c)) p to m
 
-  told-crashed : (b : ℕ) → variablesAt after b .crashed ≡ variablesAt s b .crashed
-  told-crashed b =
-      ap (λ (y : Process). y .variables .crashed) (out s u ready p number live c calm to m room .frame .processes b)
-      ∙ same-crashed s u ready p number live c calm to m room b
+  was-crashed : (b : ℕ) → variablesAt u b .crashed ≡ variablesAt s b .crashed
+  was-crashed b = ap (λ (y : Process). y .variables .crashed) (ready .frame .processes b)
 
   longer : (b : ℕ) → has to b ≡ true → variablesAt s b .crashed ≡ false → waitingFrom after b p ≡ waitingFrom u b p + 1
   longer b named on =
@@ -96,36 +94,43 @@ module _ (n : ℕ) (small : n ≤ 8) (s u : System) (ready : Ready s u) (p : ℕ
   not-told : (a b : ℕ) → (a ≡ p → has to b ≡ true → variablesAt s b .crashed ≡ false → ⊥) → waitingFrom after b a ≡ waitingFrom u b a
   not-told a b h = ap (λ (d : Channel). d .len) (as-before s u ready p number live c calm to m room a b h)
 
-  each-told : (b : ℕ) → towardsUpTo n after b + vanishesAt after to b ≡ towardsUpTo n u b + one (has to b)
+  each-told : (b : ℕ) → towardsUpTo n after b + vanishesAt u to b ≡ towardsUpTo n u b + one (has to b)
   unfolding vanishesAt one pick
   each-told b =
       by-test (has to b)
       (λ named.
       by-test (variablesAt s b .crashed)
       (λ gone.
-      rw (named, told-crashed b ∙ gone)
+      rw (named, was-crashed b ∙ gone)
       (omega (arith, sum-same n (waitingFrom after b) (waitingFrom u b) (λ a l h. not-told a b (λ e i on. true-is-not-false (sym gone ∙ on))))))
       (λ on.
-      rw (named, told-crashed b ∙ on)
+      rw (named, was-crashed b ∙ on)
       (omega
       (arith, longer b named on, sum-changed n (waitingFrom after b) (waitingFrom u b) p (number .low) high (λ a h. not-told a b (λ e. absurd (h e)))))))
       (λ other.
       rw other (omega (arith, sum-same n (waitingFrom after b) (waitingFrom u b) (λ a l h. not-told a b (λ e i. true-is-not-false (sym i ∙ other))))))
 
+  -- p, which is live, has its own message to itself
+  pub own-told : towardsUpTo n after p ≡ towardsUpTo n u p + one (has to p)
+  unfolding vanishesAt one pick
+  own-told =
+      let none : vanishesAt u to p ≡ 0 = by-test (has to p) (λ e. rw (e, was-crashed p ∙ live)) (λ e. rw e) in
+      omega (arith, none, each-told p)
+
   -- nobody past n is an addressee
   nobody-past : (k : ℕ) → n < k → has to k ≡ false
   nobody-past k h = by-test (has to k) (λ e. absurd (omega (arith, has-inside n to k inside e))) (λ e. e)
 
-  -- what waits then, and what vanished, waited before, or was sent
-  pub waits-once-told : waitingUpTo n after + vanished after to ≡ waitingUpTo n u + countOf to
+  -- what waits then, and what vanishes, waited before, or was sent
+  pub waits-once-told : waitingUpTo n after + vanished u to ≡ waitingUpTo n u + countOf to
   unfolding vanished vanishesAt one pick
   waits-once-told =
       omega (
         arith,
-        sum-same n (λ b. towardsUpTo n after b + vanishesAt after to b) (λ b. towardsUpTo n u b + one (has to b)) (λ k l h. each-told k),
-        sum-plus n (towardsUpTo n after) (vanishesAt after to),
+        sum-same n (λ b. towardsUpTo n after b + vanishesAt u to b) (λ b. towardsUpTo n u b + one (has to b)) (λ k l h. each-told k),
+        sum-plus n (towardsUpTo n after) (vanishesAt u to),
         sum-plus n (towardsUpTo n u) (λ k. one (has to k)),
-        sum-past 8 n (vanishesAt after to) small (λ k h. rw (nobody-past k h)),
+        sum-past 8 n (vanishesAt u to) small (λ k h. rw (nobody-past k h)),
         sum-past 8 n (λ k. one (has to k)) small (λ k h. rw (nobody-past k h)),
         count-sum to,
       )

@@ -12,7 +12,7 @@ returns c =
       ← c .before .before .before .and .ensures,
       ← c .before .before .before .before .is-one-of2 .ensures,
       ← c .before .before .before .before .before .is-one-of .ensures,
-      ← c .before .before .before .before .before .before .before .before .size .ensures,
+      ← c .before .before .before .before .before .before .size .ensures,
       c .if2 .taken,
       c .before .before .if1 .taken,
     )
@@ -25,7 +25,7 @@ returns-2 c =
       ← c .before .before .before .and .ensures,
       ← c .before .before .before .before .is-one-of2 .ensures,
       ← c .before .before .before .before .before .is-one-of .ensures,
-      ← c .before .before .before .before .before .before .before .before .size .ensures,
+      ← c .before .before .before .before .before .before .size .ensures,
       c .if2 .left,
       c .before .before .if1 .taken,
     )
@@ -37,7 +37,7 @@ returns-3 c =
       ← c .before .and .ensures,
       ← c .before .before .is-one-of2 .ensures,
       ← c .before .before .before .is-one-of .ensures,
-      ← c .before .before .before .before .before .before .size .ensures,
+      ← c .before .before .before .before .size .ensures,
       c .if1 .left,
     )
 

@@ -7,7 +7,7 @@ use Rattle.engine.proofs.perform.Statement.{statement}
 use Rattle.engine.proofs.perform.Tie as tie
 
 returns : tie.Need-returns
-returns c = c .before .before .attempt .ensures .0 .steps (sym (c .before .before .before .before .before .sound .ensures) ∙ c .before .before .before .before .if1 .taken)
+returns c = c .before .before .attempt .ensures .steps (sym (c .before .before .before .before .before .sound .ensures) ∙ c .before .before .before .before .if1 .taken)
 
 returns-2 : tie.Need-returns-2
 unfolding stepped pick

@@ -1,9 +1,9 @@
 -- `image::pop`: after i turns the channel's first i bytes are those that stood one slot later.
 use Prim.Native.Nat.{_+_, _*_, _-_, _≤_}
-use mathlib.Core.Path.{_≡_, _∙_, ap}
+use mathlib.Core.Path.{_≡_}
 use native.Mathlib.Omega.{arith}
-use lib.ListN.{length, length-set}
-use Rattle.image.specs.Image.{messageWidth, byte, systemIn}
+use lib.ListN.{length-set}
+use Rattle.image.specs.Image.{messageWidth, byte}
 use Rattle.image.proofs.Laws.{Filled, none-filled, one-filled}
 use Rattle.image.proofs.Parts.{no-channel-put}
 use Rattle.image.proofs.Changes.{pop-put, empty-put}
@@ -30,13 +30,11 @@ loop-again c =
 
 returns : tie.Need-returns Inv-loop μ-loop
 returns c =
-    let t = c .before .before in
-    let l = t .before .before .before in
+    let l = c .before in
     let f = l .before .before .before in
     let end : l .loop .i ≡ 7 * messageWidth = omega arith in
     changes (f .before .channel-place .ensures .found (f .if1 .taken) .0)
-    (ap systemIn (t .put-three .ensures)
-    ∙ pop-put _ _ _ _ (f .before .channel-place .ensures) (f .if1 .taken) _ (l .before .if2 .taken) (rw end at (l .loop .inv .1)))
+    (pop-put _ _ _ _ (f .before .channel-place .ensures) (f .if1 .taken) _ (l .before .if2 .taken) (rw end at (l .loop .inv .1)))
 
 returns-2 : tie.Need-returns-2 Inv-loop μ-loop
 returns-2 c =
@@ -68,10 +66,7 @@ pop-spec =
     (λ c. search needs)
     (λ c. search needs)
     (λ c. omega (arith, c .before .before .before .before .before .channel-place .ensures .found (c .before .before .before .before .if1 .taken)))
-    (λ c. search needs)
-    (λ c. search needs)
-    (λ c κs. simp length-set (omega (arith, c .before .before .before .before .before .before .channel-place .ensures .found (c .before .before .before .before .before .if1 .taken))))
-    (λ c. ap length (c .before .before .put-three .ensures) ∙ simp length-set (c .before .before .before .before .before .loop .inv .1 .long))
+    (λ c. simp length-set (c .before .loop .inv .1 .long))
     returns
     (λ c. search needs)
     returns-2

@@ -11,9 +11,9 @@ copy-requires c κs = omega (arith, c .before .before .before .pre .1)
 
 returns : tie.Need-returns
 returns c =
-    let pre = c .before .before .before .before .before .before .before .before .before .before .before .pre in
-    tried-move _ _ _ _ _ (pre .0) (copy-whole _ _ _ (pre .1) (c .before .before .before .before .before .before .before .copy .ensures .1))
-    (c .before .before .before .attempt .ensures .0)
+    let pre = c .before .before .before .before .before .before .before .before .before .before .pre in
+    tried-move _ _ _ _ _ (pre .0) (copy-whole _ _ _ (pre .1) (c .before .before .before .before .before .before .copy .ensures .1))
+    (c .before .before .attempt .ensures)
 
 pub try-move-spec : {M : Type 1} → statement M
 try-move-spec = tie.close (tie.spec copy-requires (λ c κs. search needs) (λ c. search needs) returns)

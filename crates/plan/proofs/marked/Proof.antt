@@ -1,4 +1,4 @@
--- `plan::marked`: by the test of the index.
+-- `plan::marked`: by the index.
 use borrow.Author.Tests.{eq-eqb, ne-eqb}
 use Rattle.view.specs.Logic.{pick}
 use borrow.Author.Needs.{needs}
@@ -7,11 +7,11 @@ use Rattle.plan.proofs.marked.Tie as tie
 
 returns : tie.Need-returns
 unfolding pick
-returns c = simp (c .with-acks .ensures, c .before .with .ensures, eq-eqb _ _ (c .before .before .if1 .taken))
+returns c = simp (eq-eqb _ _ (c .before .if1 .taken), ← c .with .ensures)
 
 returns-2 : tie.Need-returns-2
 unfolding pick
 returns-2 c = simp (ne-eqb _ _ (c .if1 .left))
 
 pub marked-spec : {M : Type 1} → statement M
-marked-spec = tie.close (tie.spec (λ c κs. search needs) (λ c κs. search needs) returns returns-2)
+marked-spec = tie.close (tie.spec (λ c κs. search needs) returns returns-2)

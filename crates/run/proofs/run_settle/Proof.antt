@@ -1,5 +1,5 @@
 -- `run::run_settle`: the numbers of the run, and how it ended.
-use mathlib.Core.Path.{_≡_, _∙_, ap}
+use mathlib.Core.Path.{ap}
 use borrow.Author.Needs.{needs}
 use Rattle.settle.specs.declared.Settled.{Settled}
 use Rattle.print.proofs.Laws.{in-turn}

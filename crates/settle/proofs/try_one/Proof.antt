@@ -10,11 +10,11 @@ with-step-requires c κs = omega (arith, c .before .before .before .before .befo
 
 returns : tie.Need-returns
 returns c =
-    let a = c .before .before .before .before .before .before .attempt .ensures in
+    let a = c .before .before .before .before .before .before .attempt-tallied .ensures in
     one-done _ _ _ _ (c .before .before .before .before .before .before .before .before .before .before .before .pre) (c .before .before .before .before .before .before .before .before .if1 .taken) _ _ (a .0) (c .before .before .if2 .taken) _ (a .1) _ (c .with-step .ensures)
 
 returns-2 : tie.Need-returns-2
-returns-2 c = one-refused _ _ _ _ (c .before .before .before .before .before .before .before .before .before .pre) (c .before .before .before .before .before .before .if1 .taken) _ _ (c .before .before .before .before .attempt .ensures .0) (c .if2 .left)
+returns-2 c = one-refused _ _ _ _ (c .before .before .before .before .before .before .before .before .before .pre) (c .before .before .before .before .before .before .if1 .taken) _ _ (c .before .before .before .before .attempt-tallied .ensures .0) (c .if2 .left)
 
 returns-3 : tie.Need-returns-3
 returns-3 c = spent _ _ _ _ (c .before .before .before .pre) (c .if1 .left)

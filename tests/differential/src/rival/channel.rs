@@ -30,11 +30,10 @@ impl Channel {
         (self.len > 0).then_some(self.slots[0])
     }
 
-    /// Takes the oldest message off; the others move up. Not for an empty
-    /// channel.
+    /// Takes the oldest message off; the others move up, and the last slot
+    /// keeps what it had. Not for an empty channel.
     pub(super) fn drop_front(&mut self) {
         self.slots.copy_within(1.., 0);
-        self.slots[CAPACITY - 1] = Message::BLANK;
         self.len -= 1;
     }
 

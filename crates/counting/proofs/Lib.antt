@@ -1,0 +1,2 @@
+-- Laws of what a step counts.
+pub mod Counting

@@ -1,0 +1,30 @@
+-- `engine::reply`: by the reach, and by whether there is room.
+use mathlib.Core.Path.{_∙_, ap}
+use mathlib.Core.Path.{refl}
+use Rattle.system.specs.declared.Variables.{Variables}
+use Rattle.plan.specs.Cut.{reachOf}
+use Rattle.plan.specs.Fields.{withNext}
+use Rattle.engine.proofs.Alternatives.{reply-full, reply-done}
+use Rattle.engine.proofs.Carrying.{sent-late}
+use borrow.Author.Needs.{needs}
+use Rattle.engine.proofs.reply.Statement.{statement}
+use Rattle.engine.proofs.reply.Tie as tie
+
+returns : tie.Need-returns
+returns c =
+    let next = c .before .before .before .before .before .before .before .before .before .before .before .before .before .before .before .before .before .before .before .before .before .before .before .before .before .before .before .args .next in
+    reply-done _ _ _ _ next _ _ (c .before .before .before .before .before .before .before .before .before .before .before .before .before .before .before .before .before .before .before .before .before .before .before .before .before .with .ensures) _ (c .before .before .before .before .before .before .before .before .before .before .before .before .before .before .before .before .before .before .before .before .before .before .before .before .reach-of .ensures) (c .before .before .before .before .before .before .before .before .before .before .before .before .before .before .before .before .before .before .before .before .before .before .if1 .taken) _ (c .before .before .before .before .before .before .before .before .before .before .before .before .before .before .before .before .before .before .before .before .takes-if-named .ensures) (c .before .before .before .before .before .before .before .before .before .before .before .before .before .before .before .before .before .before .before .if2 .taken) _ _ _ _ _
+    (c .before .before .before .before .before .before .before .before .before .before .before .before .before .before .before .with-next .ensures ∙ ap (λ (x : Variables). withNext x (next .0)) (c .before .before .before .before .before .before .before .before .before .before .before .before .before .before .before .before .variables-at .ensures))
+    (c .before .before .before .before .before .before .before .before .before .before .before .before .before .before .put-variables .ensures .system)
+    (c .before .before .before .before .before .before .before .before .before .before .put-pending .ensures .system)
+    (c .before .before .before .before .before .before .send-if-named .ensures)
+    (c .before .before .crash-if .ensures)
+
+returns-2 : tie.Need-returns-2
+returns-2 c = reply-full _ _ _ _ (c .before .before .before .before .before .before .before .before .args .next) _ _ (c .before .before .before .before .before .before .with .ensures) _ (c .before .before .before .before .before .reach-of .ensures) (c .before .before .before .if1 .taken) _ (c .before .takes-if-named .ensures) (c .if2 .left)
+
+returns-3 : tie.Need-returns-3
+returns-3 c = sent-late _ _ _ _ _ _ (c .before .before .reach-of .ensures ∙ ap (reachOf _) (c .before .before .before .with .ensures)) refl (c .if1 .left)
+
+pub reply-spec : {M : Type 1} → statement M
+reply-spec = tie.close (tie.spec (λ c κs. search needs) (λ c κs. search needs) (λ c κs. search needs) (λ c κs. search needs) (λ c κs. search needs) (λ c κs. search needs) (λ c κs. search needs) (λ c κs. search needs) (λ c κs. search needs) (λ c. search needs) returns (λ c. search needs) returns-2 returns-3)

@@ -1,0 +1,23 @@
+-- `engine::send_taken`: by the reach, and by whether there is room.
+use mathlib.Core.Path.{refl}
+use Rattle.engine.proofs.Alternatives.{taken-sent}
+use Rattle.engine.proofs.Carrying.{sent-late, sent-full}
+use borrow.Author.Needs.{needs}
+use Rattle.engine.proofs.send_taken.Statement.{statement}
+use Rattle.engine.proofs.send_taken.Tie as tie
+
+returns : tie.Need-returns
+returns c =
+    taken-sent _ _ _ _ (c .before .before .before .before .before .before .before .before .before .before .pop .ensures .system) _ _ _ _ _ _ (c .before .before .before .before .before .before .before .before .before .before .before .before .before .before .before .before .before .reach-of .ensures) (c .before .before .before .before .before .before .before .before .before .before .before .before .before .before .before .if1 .taken)
+    _ (c .before .before .before .before .before .before .before .before .before .before .before .before .before .room .ensures) (c .before .before .before .before .before .before .before .before .before .before .before .before .if2 .taken)
+    _ (c .before .before .before .before .before .before .put-variables .ensures .system)
+    (c .before .before .send-out .ensures)
+
+returns-2 : tie.Need-returns-2
+returns-2 c = sent-full _ _ _ _ _ _ (c .before .before .before .before .before .reach-of .ensures) refl refl (c .before .before .before .if1 .taken) _ (c .before .room .ensures) (c .if2 .left)
+
+returns-3 : tie.Need-returns-3
+returns-3 c = sent-late _ _ _ _ _ _ (c .before .before .reach-of .ensures) refl (c .if1 .left)
+
+pub send-taken-spec : {M : Type 1} → statement M
+send-taken-spec = tie.close (tie.spec (λ c κs. search needs) (λ c κs. search needs) (λ c κs. search needs) (λ c κs. search needs) (λ c κs. search needs) (λ c. search needs) returns (λ c. search needs) returns-2 returns-3)

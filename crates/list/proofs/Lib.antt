@@ -1,0 +1,2 @@
+-- Laws of a list of steps.
+pub mod Lists
