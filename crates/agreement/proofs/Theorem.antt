@@ -2,7 +2,7 @@
 use Prim.Native.Nat.{ℕ, zero, suc, _≤_, _<_}
 use mathlib.Core.Path.{_≡_, refl, sym, _∙_, ap, subst}
 use mathlib.Core.Bool.{true}
-use mathlib.Core.List.{List, [], _∷_, _++_, map}
+use mathlib.Core.List.{List, [], _∷_, map}
 use mathlib.Core.Logic.{_⊎_, inl, inr, ⊎-elim}
 use native.Mathlib.Omega.{arith}
 use native.Mathlib.Decide.{decLe}
@@ -17,7 +17,7 @@ use Rattle.system.specs.declared.Process.{Process}
 use Rattle.system.specs.declared.System.{System}
 use Rattle.system.specs.Process.{entryAt, noEntries}
 use Rattle.system.specs.System.{noProcess, processAt, entryIn}
-use Rattle.step.specs.Step.{Event, happened, ran}
+use Rattle.step.specs.Step.{Event, ran}
 use Rattle.step.proofs.Outcomes.{ran-append}
 use Rattle.agreement.specs.Accepted.{Acceptance, acceptedIn}
 use Rattle.agreement.specs.Book.{Agreement, Book, bookEntry, openedBook, fedAll}

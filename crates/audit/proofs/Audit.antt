@@ -1,8 +1,8 @@
 -- What a sheet counts is the tally of its events: line by line. Each line has at most 7,936 of them, and each of these sends at most eight
 -- messages, so that no count of a sheet, nor of 64 sheets, passes its end.
-use Prim.Native.Nat.{ℕ, zero, suc, _+_, _*_, _≤_}
+use Prim.Native.Nat.{ℕ, suc, _+_, _*_, _≤_}
 use mathlib.Core.Path.{_≡_, refl, sym, _∙_, ap, subst}
-use mathlib.Core.Bool.{Bool, true, false}
+use mathlib.Core.Bool.{Bool, true}
 use mathlib.Core.List.{List, [], _∷_, _++_}
 use native.Mathlib.Omega.{arith}
 use borrow.Author.Tests.{ltb-false, le-ltb}
@@ -17,16 +17,13 @@ use Rattle.system.specs.declared.System.{System}
 use Rattle.system.specs.declared.Outcome.{Outcome}
 use Rattle.system.specs.System.{done, refused}
 use Rattle.system.specs.Fresh.{freshSystem, freshOf}
-use Rattle.plan.specs.declared.Step.{Step as Order}
 use Rattle.step.specs.Step.{stepped, Event, does, happened, ran}
 use Rattle.step.specs.Counts.{eventTally, eventsTally, stillWaiting, tallyOf}
 use Rattle.step.specs.Tallied.{freshTally}
 use Rattle.step.proofs.Outcomes.{ran-append, tally-append}
 use Rattle.settle.specs.Settle.{settled, settledTally}
 use Rattle.settle.proofs.Within.{settled-steps}
-use Rattle.bound.specs.Settling.{Moves, SettlesBy}
 use Rattle.bound.proofs.Settling.{settles-by}
-use Rattle.traffic.specs.Traffic.{Few}
 use Rattle.traffic.proofs.Theorem.{conserved, few-counted}
 use Rattle.traffic.proofs.Share.{share-at-most-one}
 use Rattle.sheet.specs.declared.parse.Opening.{Opening}
@@ -37,7 +34,7 @@ use Rattle.sheet.specs.Lines.{linesOf}
 use Rattle.sheet.specs.Parse.{opened, parsed}
 use Rattle.sheet.proofs.Laws.{weight, few-bytes, few-lines}
 use Rattle.sheet.proofs.GoodLines.{fresh-size}
-use Rattle.run.specs.Output.{Printed, answered, settledAs, lineDone, talliedThen, talliedFrom, talliedBy, linesTally, sheetTally}
+use Rattle.run.specs.Output.{answered, settledAs, lineDone, talliedThen, talliedFrom, talliedBy, linesTally, sheetTally}
 use Rattle.class.specs.declared.Finding.{Finding}
 use Rattle.class.specs.Class.{Named, findingOf, addsOf, inAll}
 use Rattle.audit.specs.Audit.{EventsOf, ended, bad, step, settling, Accounted, SheetAccounted, Even, SheetEven, ClassEven, NotOverOne, SheetShare, ClassShare, NoOverflow}

@@ -16,7 +16,6 @@ use Rattle.tallies.proofs.Laws.{plus-none, none-plus, plus-plus, kept-on-the-wa
 use Rattle.system.specs.declared.System.{System}
 use Rattle.system.specs.Fresh.{freshOf}
 use Rattle.sound.specs.Sound.{soundSystem}
-use Rattle.plan.specs.declared.Action.{Action}
 use Rattle.plan.specs.Cut.{whole}
 use Rattle.step.specs.Step.{stepped, Event, does, happened, ran}
 use Rattle.step.specs.Counts.{tallyIf, stepTally, eventTally, eventsTally}
@@ -24,13 +23,12 @@ use Rattle.step.specs.Rest.{atRest}
 use Rattle.step.proofs.Outcomes.{size-kept, ran-append, tally-append}
 use Rattle.settle.specs.declared.Half.{Half}
 use Rattle.settle.specs.declared.Half.the-variants.{Takes, Answers}
-use Rattle.settle.specs.declared.Ending.{Ending}
 use Rattle.settle.specs.declared.Ending.the-variants.{Rest, Held, Budget}
 use Rattle.settle.specs.declared.Settled.{Settled}
 use Rattle.settle.specs.Settle.{Progress, passing, tried, moveOf, triedWith, triedAt, halfDone, roundDone, unlessIdle, roundsDone, noneDone, nothingToDo, endingOf, endedWith, outset, settledFrom, settled, settledTally}
 use Rattle.settle.proofs.Idle.{looks-round, rounds-end}
-use Rattle.bound.specs.Bound.{takeOrAnswer, takeOrAnswerDone, allDone, Further}
-use Rattle.bound.specs.Settling.{Moves, SettlesBy, IsMoves, Ends, NeverBudget}
+use Rattle.bound.specs.Bound.{takeOrAnswer, takeOrAnswerDone, allDone}
+use Rattle.bound.specs.Settling.{SettlesBy, IsMoves, Ends, NeverBudget}
 use Rattle.bound.proofs.Theorem.{further-done}
 
 -- ---- lists of takes and answers, one after the other

@@ -7,15 +7,14 @@ use lib.ListN.{length}
 use Rattle.view.specs.Logic.{pick}
 use Rattle.system.specs.declared.System.{System}
 use Rattle.system.specs.declared.Outcome.{Outcome}
-use Rattle.system.specs.Fresh.{freshOf}
 use Rattle.step.specs.Step.{stepped, Event, happened, ran}
 use Rattle.step.proofs.Outcomes.{ran-append}
 use Rattle.image.specs.Image.{imageWidth, systemIn}
-use Rattle.engine.specs.Engine.{Order, Unknown, Do, ordersIn, obeyed, systemAfter}
+use Rattle.list.specs.List.{Order, Unknown, Do, ordersIn, obeyed, systemAfter}
 use Rattle.capi.specs.Calls.{Freshens}
 use Rattle.agreement.specs.Demand.{start}
 use Rattle.agreement.proofs.Theorem.{demand-3}
-use Rattle.calls.specs.Calls.{stepsAmong, Called, nothing, step, steps, settling, CalledRun, EveryRun}
+use Rattle.calls.specs.Calls.{stepsAmong, Called, nothing, step, steps, settling, EveryRun}
 
 -- a list of orders is the list of its steps
 orders-ran : (s : System) (os : List Order) (rest : List Event) → ran (systemAfter s os) rest ≡ ran s (stepsAmong os ++ rest)

@@ -7,7 +7,8 @@ use lib.ListN.{length}
 use Rattle.plan.specs.declared.Step.{Step}
 use Rattle.step.specs.Step.{stepped, Event, does, ran}
 use Rattle.image.specs.Image.{imageWidth, systemIn}
-use Rattle.engine.specs.Engine.{Gives, Order, Unknown, Do, Performs, ordersIn}
+use Rattle.alternatives.specs.Gives.{Gives}
+use Rattle.list.specs.List.{Order, Unknown, Do, Performs, ordersIn}
 use Rattle.settle.specs.Settle.{settled}
 use Rattle.bound.specs.Settling.{Moves}
 use Rattle.capi.specs.Calls.{Freshens, Tells}

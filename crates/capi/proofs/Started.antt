@@ -1,6 +1,6 @@
 -- The image of a fresh system: for a size that there is, for another, and where the bytes have not the length of an image.
 use Prim.Native.Nat.{ℕ}
-use mathlib.Core.Path.{_≡_, refl, sym, _∙_}
+use mathlib.Core.Path.{_≡_, refl, _∙_}
 use mathlib.Core.Bool.{Bool, true, false}
 use mathlib.Core.List.{List}
 use native.Mathlib.Omega.{arith}
@@ -8,9 +8,6 @@ use borrow.Author.Tests.{eq-eqb, ne-eqb}
 use lib.Dec.{eqb}
 use lib.ListN.{length}
 use Rattle.view.specs.Logic.{pick, isOneOf}
-use Rattle.system.specs.declared.System.{System}
-use Rattle.system.specs.declared.Outcome.{Outcome}
-use Rattle.system.specs.System.{done, refused}
 use Rattle.system.specs.Fresh.{freshSystem, freshOf}
 use Rattle.image.specs.Image.{imageWidth, systemIn}
 use Rattle.capi.specs.Calls.{Freshens}

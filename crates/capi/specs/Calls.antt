@@ -5,7 +5,6 @@ use mathlib.Core.List.{List, _++_}
 use lib.Dec.{eqb}
 use lib.ListN.{length, take, drop, set}
 use Rattle.view.specs.Logic.{pick}
-use Rattle.system.specs.declared.Outcome.{Outcome}
 use Rattle.system.specs.System.{refused}
 use Rattle.system.specs.Fresh.{freshOf}
 use Rattle.image.specs.Image.{imageWidth, systemIn}

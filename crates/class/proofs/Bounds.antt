@@ -1,13 +1,12 @@
 -- The line of a name has at most 412 bytes: 255 of the name, six numbers of at most twenty digits, and the words between them.
-use Prim.Native.Nat.{ℕ, min, _≤_}
+use Prim.Native.Nat.{ℕ, _≤_}
 use mathlib.Core.List.{List}
 use native.Mathlib.Omega.{arith}
-use native.Mathlib.Nat.{min-le-left}
 use lib.ListN.{length, take, length-take}
 use Rattle.tallies.specs.declared.Tally.{Tally}
 use Rattle.tallies.specs.declared.share.Share.{Share}
 use Rattle.tallies.specs.Share.{shareOf}
-use Rattle.print.specs.Text.{bytes, decimal}
+use Rattle.print.specs.Text.{bytes}
 use Rattle.print.proofs.Bounds.{AtMost, both, twenty-digits}
 use Rattle.class.specs.declared.Finding.{Finding}
 use Rattle.class.specs.declared.Finding.the-variants.{Unopened, TooLong, Counted}

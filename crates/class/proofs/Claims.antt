@@ -9,7 +9,7 @@ use Rattle.system.specs.System.{noProcess, processAt, withProcess, channelNumbe
 use Rattle.system.specs.Fresh.{freshVariables, freshProcess, freshSystem, freshOf}
 use Rattle.sound.specs.Sound.{every, soundProposal, soundMessage, soundPending, soundChannel, soundHistory, soundVariables, soundProcess, soundChannelAt, soundAt, soundSystem}
 use Rattle.plan.specs.Plan.{changed, newViewPlan, reportPlan, committingPlan, messagePlan, receivePlan, respondPlan}
-use Rattle.plan.specs.Scope.{scopeOf}
+use Rattle.step.specs.Scope.{scopeOf}
 use Rattle.plan.specs.Cut.{cutShort, cutBy}
 use Rattle.step.specs.Step.{planOf, takenOff, departed, suspectedIfNamed, doubted, changedAt, emptiedFrom, crashedAt, crashedIf, effected, carriedOut, permitted, attempted, stepped, happened}
 use Rattle.step.specs.Counts.{waitingTowards, waitingIn, one, vanishesAt, vanished, lostAt, isCommit, planTally, tallyIf, stepTally, eventTally, stillWaiting}

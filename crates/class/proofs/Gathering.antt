@@ -10,7 +10,7 @@ use lib.ListN.{length, take, drop, length-drop, drop-of-length-le}
 use Rattle.view.specs.Logic.{pick}
 use Rattle.view.proofs.Laws.{by-test}
 use Rattle.sheet.specs.Lines.{isFeed, lineLength, nextPlace}
-use Rattle.sheet.proofs.Laws.{line-within, no-line}
+use Rattle.sheet.proofs.Laws.{line-within}
 use Rattle.print.specs.Page.{Page, typed}
 use Rattle.print.proofs.Laws.{nothing-typed}
 use Rattle.class.specs.Names.{firstLine, hasFeed, Gathers}

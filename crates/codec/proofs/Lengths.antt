@@ -1,13 +1,11 @@
--- The arrays of a system have the lengths that the program's types say, where the system is a program's value, and where it was
--- read from bytes.
-use Prim.Native.Nat.{ℕ, zero, suc}
-use mathlib.Core.Path.{_≡_, refl, ap}
+-- The arrays of a system that is a program's value have the lengths that the program's types say.
+use mathlib.Core.Path.{_≡_}
 use mathlib.Core.List.{List, [], _∷_, map}
 use base.Fml.{Fml}
 use denote.Array.{each}
 use denote.Laws.{Is}
 use denote.Shadow.{shadow}
-use lib.ListN.{length, drop}
+use lib.ListN.{length}
 use mir.Val.{Val}
 use Rattle.view.proofs.Laws.{Each, long}
 use Rattle.channel.specs.declared.Channel.{Channel}
@@ -16,7 +14,6 @@ use Rattle.system.specs.declared.Process.{Process}
 use Rattle.system.specs.declared.System.{System}
 use Rattle.system.proofs.Process as process
 use Rattle.system.proofs.System as system
-use Rattle.image.specs.Image.{messageWidth, channelWidth, recordWidth, recordsPlace, historyPlace, processWidth, processesPlace, channelsPlace, trustPlace, rows, byte, slotIn, channelIn, recordIn, historyIn, processIn, decoded}
 
 pub record ProcessLengths (x : Process) : Type 0 where
   pub pending : length (x .pending) ≡ 8
@@ -54,34 +51,4 @@ value-lengths s vs p =
       trust = search long;
       each-process = each-value _ _ ProcessLengths process-value (s .processes) _ (p .1 .1 .1 .0 .1 .1);
       each-channel = each-value _ _ ChannelLengths channel-value (s .channels) _ (p .1 .1 .1 .1 .0 .1 .1);
-    }
-
--- ---- a system that was read
-rows-length : {A : Type 0} (n w : ℕ) (f : List ℕ → A) (b : List ℕ) → length (rows n w f b) ≡ n
-unfolding rows
-rows-length zero w f b = refl
-rows-length (suc n) w f b = ap suc (rows-length n w f (drop w b))
-
-each-row : {A : Type 0} (P : A → Type 0) (n w : ℕ) (f : List ℕ → A) → ((b : List ℕ) → P (f b)) → (b : List ℕ) → Each P (rows n w f b)
-unfolding rows
-each-row P zero w f h b = tt
-each-row P (suc n) w f h b = (h b, each-row P n w f h (drop w b))
-
-process-read : (b : List ℕ) → ProcessLengths (processIn b)
-unfolding processIn historyIn
-process-read b = record { pending = rows-length 8 recordWidth recordIn (drop recordsPlace b); entries = rows-length 32 1 (byte 0) (drop historyPlace b) }
-
-channel-read : (b : List ℕ) → ChannelLengths (channelIn b)
-unfolding channelIn
-channel-read b = record { slots = rows-length 8 messageWidth slotIn b }
-
-pub decoded-lengths : (b : List ℕ) → Lengths (decoded b)
-unfolding decoded
-decoded-lengths b =
-    record {
-      processes = rows-length 8 processWidth processIn (drop processesPlace b);
-      channels = rows-length 64 channelWidth channelIn (drop channelsPlace b);
-      trust = rows-length 8 1 (byte 0) (drop trustPlace b);
-      each-process = each-row ProcessLengths 8 processWidth processIn process-read (drop processesPlace b);
-      each-channel = each-row ChannelLengths 64 channelWidth channelIn channel-read (drop channelsPlace b);
     }

@@ -21,7 +21,7 @@ use Rattle.system.specs.System.{processAt, channelNumber, channelAt, withChanne
 use Rattle.sound.specs.Sound.{soundSystem}
 use Rattle.plan.specs.declared.Scope.{Scope}
 use Rattle.plan.specs.declared.Step.{Step}
-use Rattle.plan.specs.Scope.{scopeOf}
+use Rattle.step.specs.Scope.{scopeOf}
 use Rattle.plan.specs.Cut.{cutBy}
 use Rattle.step.specs.Step.{planOf, takenOff, attempted, does, happened}
 use Rattle.step.specs.Counts.{one, vanishesAt, vanished, planTally, tallyIf, stepTally, eventTally}

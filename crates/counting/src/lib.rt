@@ -2,7 +2,7 @@
 ghost use Prim.Native.Nat.{_≤_};
 ghost use mathlib.Core.Path.{_≡_};
 ghost use Rattle.system.specs.System.{channelAt};
-ghost use Rattle.plan.specs.Scope.{scopeOf};
+ghost use Rattle.step.specs.Scope.{scopeOf};
 ghost use Rattle.plan.specs.Cut.{cutBy};
 ghost use Rattle.step.specs.Step.{planOf, takenOff};
 ghost use Rattle.step.specs.Counts.{waitingTowards, waitingIn, stillWaiting, one, vanished, lostAt, isCommit, planCounts, planTally, tallyIf, stepTally};

@@ -2,7 +2,7 @@
 // what a step would do.
 ghost use mathlib.Core.Path.{_≡_};
 ghost use Rattle.plan.specs.Plan.{assigning, recording, entering, sending, quietly, refusing, doubting, reportPlan, receivePlan, respondPlan, crashPlan};
-ghost use Rattle.plan.specs.Scope.{scopeOf};
+ghost use Rattle.step.specs.Scope.{scopeOf};
 ghost use Rattle.plan.specs.Cut.{cutShort, cutBy};
 use channel::Front;
 use channel::Message;
@@ -14,6 +14,7 @@ use plan::ReceiveChoice;
 use plan::ReportChoice;
 use plan::RespondChoice;
 use plan::Scope;
+use plan::after;
 use plan::proposing;
 use plan::reach_of;
 use plan::receive_choice;
@@ -143,7 +144,8 @@ pub fn report_plan(n: u8, p: ProcessId, view: u8, x: Variables, trust: u8) -> Pl
     match report_choice(n, p, view, x, trust) {
         ReportChoice::Refuse(k) => refusing(k, x),
         ReportChoice::Adopt => doubting(suspects, quietly(assigning(with_view(x, view)))),
-        ReportChoice::ProposeAt(i) => {
+        ReportChoice::ProposeAfter => {
+            let i = after(x.propout);
             let full = sending(
                 assigning(proposing(x, view, i)),
                 view,

@@ -16,7 +16,7 @@ use Rattle.plan.specs.declared.Action.{Action}
 use Rattle.plan.specs.declared.Plan.{Plan}
 use Rattle.plan.specs.declared.Scope.{Scope}
 use Rattle.plan.specs.declared.Step.{Step}
-use Rattle.plan.specs.Scope.{scopeOf}
+use Rattle.step.specs.Scope.{scopeOf}
 use Rattle.plan.specs.Cut.{cutBy}
 use Rattle.step.specs.Step.{planOf, takenOff, carriedOut, permitted, attempted}
 use Rattle.step.proofs.Soundness.{Valid}
@@ -24,7 +24,8 @@ use Rattle.step.proofs.Inversion.{sound-stepped}
 use Rattle.step.proofs.SoundSteps.{step-sound}
 use Rattle.image.specs.Image.{byte, processIn, channelIn, decoded, noSystem, systemIn, imageWidth, processWidth, channelWidth}
 use Rattle.image.proofs.Shape.{rows-long, slots-long, pending-long, entries-long}
-use Rattle.engine.specs.Engine.{Gives, Attempts, carried}
+use Rattle.alternatives.specs.Gives.{Gives, carried}
+use Rattle.engine.specs.Engine.{Attempts}
 
 -- ---- a sound system that bytes hold is valid
 pub no-system : soundSystem noSystem ≡ false

@@ -1,4 +1,3 @@
 -- Laws of a step that is done in place.
 pub mod Given
-pub mod Carrying
-pub mod Alternatives
+pub mod Chosen

@@ -1,2 +1,2 @@
--- What a step, and a list of steps, on an image answers and leaves in it.
+-- What a step on an image answers and leaves in it, where the system is taken to be sound.
 pub mod Engine

@@ -20,7 +20,7 @@ use Rattle.plan.specs.declared.Action.{Action}
 use Rattle.plan.specs.declared.Action.the-variants.{Report, Receive, Respond, Crash}
 use Rattle.plan.specs.declared.Plan.{Plan}
 use Rattle.plan.specs.Plan.{reportPlan}
-use Rattle.plan.specs.Scope.{scopeOf}
+use Rattle.step.specs.Scope.{scopeOf}
 use Rattle.plan.specs.Cut.{whole, cutBy}
 use Rattle.step.specs.Step.{planOf, carriedOut, permitted, attempted, stepped}
 use Rattle.orders.specs.Orders.{process, withReport, withLinkMovesAt, linkMoves, withTake, withTakesAt, withAnswer, withAnswersAt, processMoves}

@@ -1,7 +1,7 @@
 -- Laws of the soundness test: one turn of each of its loops.
 use Prim.Native.Nat.{ℕ, zero, suc, _+_, _<_, _≤_}
-use mathlib.Core.Path.{_≡_, refl, sym}
-use mathlib.Core.Bool.{Bool, true, _&&_, _||_, not, and-assoc, and-true}
+use mathlib.Core.Path.{_≡_, sym}
+use mathlib.Core.Bool.{Bool, true, false, _&&_, _||_, not, and-assoc, and-true}
 use mathlib.Core.List.{List, [], _∷_, map}
 use native.Mathlib.Nat.{not-suc-le-zero, le-of-suc-le-suc}
 use native.Mathlib.Numerals.{add-one}
@@ -22,6 +22,12 @@ unfolding every
 every-next f [] i d h = absurd (not-suc-le-zero h)
 every-next f (s ∷ l) zero d h = and-true _
 every-next f (s ∷ l) (suc i) d h = rw (every-next f l i d (le-of-suc-le-suc h), and-assoc)
+
+-- a channel on which nothing waits
+pub empty-sound : (n q p : ℕ) (crashed : Bool) (c : Channel) → c .len ≡ 0 → soundChannel n crashed q p c ≡ true
+unfolding soundChannel waiting every
+empty-sound n q p true c e = rw e
+empty-sound n q p false c e = rw e
 
 -- the first i messages of the channel from q to p are sound, and none waits towards a process that has crashed
 unfoldable pub soundSoFar : ℕ → Bool → ℕ → ℕ → Channel → ℕ → Bool

@@ -1,6 +1,6 @@
 // Is the system that an image holds sound? Tested where it stands, for every list of bytes.
 ghost use mathlib.Core.Path.{_≡_};
-ghost use Rattle.system.specs.System.{processAt, channelAt};
+ghost use Rattle.system.specs.System.{processAt, variablesAt, channelAt};
 ghost use Rattle.sound.specs.Sound.{soundChannel, soundHistory, soundProcess, soundAt, soundSystem};
 ghost use Rattle.image.specs.Image.{systemIn};
 use image::entry_at;
@@ -33,6 +33,18 @@ fn sound_channel(image: &[u8], n: u8, crashed: bool, q: ProcessId, p: ProcessId)
         ok
     } else {
         false
+    }
+}
+
+// The channel from process q to process p of n. Whether p has crashed is read only where messages wait.
+fn sound_channel_at(image: &[u8], n: u8, q: ProcessId, p: ProcessId) -> bool
+    ensures { λ r. ⌜ r ≡ soundChannel n (variablesAt (systemIn (now (image .entry))) (p .0) .crashed) (q .0) (p .0) (channelAt (systemIn (now (image .entry))) (q .0) (p .0)) ⌝ }
+{
+    if length_at(image, q, p) == 0 {
+        true
+    } else {
+        let x = variables_at(image, p);
+        sound_channel(image, n, x.crashed, q, p)
     }
 }
 
@@ -75,8 +87,7 @@ fn sound_sender(image: &[u8], q: ProcessId) -> bool
     let mut i: u8 = 0;
     while i < n {
         i += 1;
-        let x = variables_at(image, ProcessId(i));
-        ok = and(ok, sound_channel(image, n, x.crashed, q, ProcessId(i)));
+        ok = and(ok, sound_channel_at(image, n, q, ProcessId(i)));
     }
     ok
 }

@@ -20,7 +20,9 @@ use Rattle.plan.specs.declared.Cut.{Cut}
 use Rattle.plan.specs.declared.Step.{Step}
 use Rattle.step.specs.Step.{stepped}
 use Rattle.image.specs.Image.{systemIn}
-use Rattle.engine.specs.Engine.{Gives, Attempts, cutOf, Order, Unknown, Do, ordered, orderOf, orderCount, orderAt, ordersFrom, obeyed, numbersOf, systemAfter, allRefused}
+use Rattle.alternatives.specs.Gives.{Gives}
+use Rattle.engine.specs.Engine.{Attempts}
+use Rattle.list.specs.List.{cutOf, Order, Unknown, Do, ordered, orderOf, orderCount, orderAt, ordersFrom, obeyed, numbersOf, systemAfter, allRefused}
 
 take-set : (l : List ℕ) (k r : ℕ) → k < length l → take (suc k) (set l k r) ≡ take k l ++ (r ∷ [])
 take-set [] k r h = absurd (not-suc-le-zero h)

@@ -12,9 +12,8 @@ use Rattle.step.specs.Step.{stepped}
 use Rattle.image.specs.Image.{imageWidth, encoded, decoded, systemIn}
 use Rattle.codec.proofs.Lengths.{Lengths}
 use Rattle.codec.proofs.Back.{encode-call, decode-call}
-use Rattle.engine.specs.Engine.{Gives}
+use Rattle.alternatives.specs.Gives.{Gives}
 use Rattle.settle.specs.declared.Settling.{Settling}
-use Rattle.settle.specs.declared.Settled.{Settled}
 use Rattle.settle.specs.Settle.{settled, Settles}
 
 -- bytes a become b by `encode` of s, and c by a call; t is decoded from them

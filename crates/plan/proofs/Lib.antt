@@ -1,2 +1,3 @@
 -- Laws of plans.
 pub mod Cuts
+pub mod Choices

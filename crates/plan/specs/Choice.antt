@@ -1,15 +1,16 @@
 -- Which alternative of Figure 3 a step takes, and the plan that this is. The code chooses, and goes from there straight to what is done.
-use Prim.Native.Nat.{ℕ}
+use Prim.Native.Nat.{ℕ, _+_}
 use mathlib.Core.Bool.{Bool, true, not}
-use lib.Dec.{eqb}
+use lib.Dec.{eqb, ltb}
 use Rattle.view.specs.View.{with, minus, everyone}
 use Rattle.view.specs.declared.ProcessId.{ProcessId}
 use Rattle.channel.specs.declared.Message.the-variants.{Propose, Commit}
+use Rattle.system.specs.Process.{index}
 use Rattle.system.specs.declared.Pending.the-variants.{Nothing, Proposal}
 use Rattle.system.specs.declared.Variables.{Variables}
 use Rattle.plan.specs.declared.Plan.{Plan}
 use Rattle.plan.specs.declared.ReportChoice.{ReportChoice}
-use Rattle.plan.specs.declared.ReportChoice.the-variants.{Adopt, ProposeAt}
+use Rattle.plan.specs.declared.ReportChoice.the-variants.{Adopt, ProposeAfter}
 use Rattle.plan.specs.declared.ReportChoice.the-variants.{Refuse as RefuseReport}
 use Rattle.plan.specs.declared.ReceiveChoice.{ReceiveChoice}
 use Rattle.plan.specs.declared.ReceiveChoice.the-variants.{Record, Skip, Mark, CommitAll, ProposeAgain, Enter}
@@ -24,13 +25,14 @@ use Rattle.plan.specs.Plan.{assigning, recording, entering, sending, qui
 unfoldable pub reportedPlan : ℕ → ℕ → Variables → ReportChoice → Plan
 reportedPlan n v x (RefuseReport k) = refusing k x
 reportedPlan n v x Adopt = doubting (minus (everyone n) v) (quietly (assigning (withView x v)))
-reportedPlan n v x (ProposeAt i) = doubting (minus (everyone n) v) (sending (assigning (proposing x v (i .0))) v (Propose v i))
+reportedPlan n v x ProposeAfter =
+    doubting (minus (everyone n) v) (sending (assigning (proposing x v (x .propout .0 + 1))) v (Propose v (index (x .propout .0 + 1))))
 
--- a refusal has another number than 0
-unfoldable pub reportNumbered : ReportChoice → Bool
-reportNumbered (RefuseReport k) = not (eqb k 0)
-reportNumbered Adopt = true
-reportNumbered (ProposeAt i) = true
+-- a refusal has another number than 0, and the index after PropOut is in the history
+unfoldable pub reportFits : Variables → ReportChoice → Bool
+reportFits x (RefuseReport k) = not (eqb k 0)
+reportFits x Adopt = true
+reportFits x ProposeAfter = ltb (x .propout .0) 32
 
 -- ---- a message of process q, taken at a process whose variables are x
 unfoldable pub receivedPlan : ProcessId → Variables → ReceiveChoice → Plan
@@ -42,6 +44,7 @@ receivedPlan q x CommitAll = sending (assigning (withAcks x 0)) (x .proposal) (C
 receivedPlan q x (ProposeAgain i) = sending (assigning (reproposing x (i .0))) (x .view) (Propose (x .view) i)
 receivedPlan q x (Enter v i) = quietly (entering x (i .0) v)
 
+-- a refusal has another number than 0
 unfoldable pub receiveNumbered : ReceiveChoice → Bool
 receiveNumbered (RefuseReceive k) = not (eqb k 0)
 receiveNumbered (Record v i) = true

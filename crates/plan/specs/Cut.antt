@@ -2,7 +2,7 @@
 use Prim.Native.Nat.{ℕ}
 use mathlib.Core.Bool.{Bool, true, false}
 use lib.Dec.{ltb, eqb}
-use Rattle.view.specs.Logic.{unless}
+use Rattle.view.specs.Logic.{pick, unless}
 use Rattle.view.specs.View.{countOf, firstOf}
 use Rattle.plan.specs.declared.Action.{Action}
 use Rattle.plan.specs.declared.Cut.{Cut}
@@ -35,10 +35,9 @@ reachOf (After k) to =
     unless (ltb k (countOf to)) (record { refusal = 12; addressees = 0; stops = false })
     (record { refusal = 0; addressees = firstOf k to; stops = true })
 
--- all of the step is done
-unfoldable pub isWhole : Cut → Bool
-isWhole Whole = true
-isWhole (After k) = false
+-- refusals 12 and 7, or 0, of a message that reaches so far, where its addressees have room or have not: 12 is "after 6 and before 7"
+unfoldable pub refusalOf : Reach → Bool → ℕ
+refusalOf t room = unless (eqb (t .refusal) 0) (t .refusal) (pick room 0 7)
 
 -- the plan of a step, whose action has the plan a
 unfoldable pub cutBy : Cut → Plan → Plan

@@ -1,19 +1,20 @@
-// Figure 3, guarded command by guarded command: which alternative the acting process takes; and how a step
-// is cut.
-ghost use Prim.Native.Nat.{ℕ};
+// Figure 3, guarded command by guarded command: which alternative the acting process takes; how a step is
+// cut, and refusals 12 and 7.
+ghost use Prim.Native.Nat.{ℕ, _+_};
 ghost use mathlib.Core.Path.{_≡_};
 ghost use mathlib.Core.Bool.{true};
-ghost use lib.Dec.{eqb};
+ghost use lib.Dec.{eqb, ltb};
 ghost use Rattle.view.specs.Logic.{pick};
 ghost use Rattle.view.specs.View.{with};
 ghost use Rattle.plan.specs.Fields.{withView, withNext, withAcks, proposing, reproposing};
 ghost use Rattle.plan.specs.Plan.{newViewPlan, reportPlan, committingPlan, messagePlan, receivePlan, respondPlan};
-ghost use Rattle.plan.specs.Choice.{reportedPlan, reportNumbered, receivedPlan, receiveNumbered, respondedPlan, respondNumbered};
-ghost use Rattle.plan.specs.Cut.{isWhole, reachOf};
+ghost use Rattle.plan.specs.Choice.{reportedPlan, reportFits, receivedPlan, receiveNumbered, respondedPlan, respondNumbered};
+ghost use Rattle.plan.specs.Cut.{reachOf, refusalOf};
 use channel::Front;
 use channel::Message;
 use system::Pending;
 use system::Variables;
+use system::refusal::CHANNEL_FULL;
 use system::refusal::CUT_TOO_LATE;
 use system::refusal::EARLY_TRUST;
 use system::refusal::HISTORY_FULL;
@@ -139,11 +140,11 @@ pub fn reproposing(x: Variables, i: GroupIndex) -> Variables
 }
 
 // What becomes of a report: it is refused with this number; the process only takes the view over; or it
-// proposes the view at the index.
+// proposes the view at the index after PropOut, which is then below 32.
 pub enum ReportChoice {
     Refuse(u8),
     Adopt,
-    ProposeAt(GroupIndex),
+    ProposeAfter,
 }
 
 // What becomes of a message that is taken: the step is refused with this number and it stays; the
@@ -166,13 +167,20 @@ pub enum RespondChoice {
     Reply(GroupIndex, Message),
 }
 
+// The index after this one, in a history.
+pub fn after(i: GroupIndex) -> GroupIndex
+    ensures { λ r. ⌜ r ≡ record { 0 = pick (ltb (i .0) 32) (i .0 + 1) (i .0) } ⌝ }
+{
+    if i.0 < 32 { GroupIndex(i.0 + 1) } else { i }
+}
+
 // Process p is told a view that names it and brings back only whom it may trust again.
 fn new_view(p: ProcessId, view: u8, x: Variables) -> ReportChoice
-    ensures { λ r. ⌜ ((n : ℕ) → reportedPlan n view x r ≡ newViewPlan n (p .0) view x) × (reportNumbered r ≡ true) ⌝ }
+    ensures { λ r. ⌜ ((n : ℕ) → reportedPlan n view x r ≡ newViewPlan n (p .0) view x) × (reportFits x r ≡ true) ⌝ }
 {
     if least(view).0 == p.0 {
         if x.propout.0 < 32 {
-            ReportChoice::ProposeAt(GroupIndex(x.propout.0 + 1))
+            ReportChoice::ProposeAfter
         } else {
             ReportChoice::Refuse(HISTORY_FULL)
         }
@@ -183,7 +191,7 @@ fn new_view(p: ProcessId, view: u8, x: Variables) -> ReportChoice
 
 // First guarded command: process p of n, which may trust some others again, is told a view.
 pub fn report_choice(n: u8, p: ProcessId, view: u8, x: Variables, trust: u8) -> ReportChoice
-    ensures { λ r. ⌜ (reportedPlan n view x r ≡ reportPlan n (p .0) view x trust) × (reportNumbered r ≡ true) ⌝ }
+    ensures { λ r. ⌜ (reportedPlan n view x r ≡ reportPlan n (p .0) view x trust) × (reportFits x r ≡ true) ⌝ }
 {
     if and(within(n, view), has(view, p)) {
         if subset(minus(view, x.view), trust) {
@@ -275,16 +283,6 @@ pub fn respond_choice(x: Variables, pending: Pending) -> RespondChoice
     }
 }
 
-// Is all of the step done?
-pub fn is_whole(cut: Cut) -> bool
-    ensures { λ r. ⌜ r ≡ isWhole cut ⌝ }
-{
-    match cut {
-        Cut::Whole => true,
-        Cut::After(k) => false,
-    }
-}
-
 // To whom the message of a step goes: it is refused with this number; or, at 0, it goes to these, and
 // then the process stops or not.
 pub struct Reach {
@@ -319,4 +317,23 @@ pub fn reach_of(cut: Cut, to: u8) -> Reach
             }
         }
     }
+}
+
+// Refusals 12 and 7, in this order, or 0: a message that reaches so far, where its addressees have room or
+// have not.
+pub fn refusal_of(t: Reach, room: bool) -> u8
+    ensures { λ r. ⌜ r ≡ refusalOf t room ⌝ }
+{
+    if t.refusal == 0 {
+        if room { 0 } else { CHANNEL_FULL }
+    } else {
+        t.refusal
+    }
+}
+
+// The same of a step that sends nothing: it wants no room, and any cut of it is too late.
+pub fn quiet_refusal(cut: Cut) -> u8
+    ensures { λ r. ⌜ r ≡ reachOf cut 0 .refusal ⌝ }
+{
+    refusal_of(reach_of(cut, 0), true)
 }

@@ -13,7 +13,7 @@ use Rattle.system.specs.declared.Outcome.{Outcome}
 use Rattle.system.specs.System.{variablesAt}
 use Rattle.plan.specs.declared.Action.{Action}
 use Rattle.plan.specs.declared.Step.{Step}
-use Rattle.plan.specs.Scope.{scopeOf}
+use Rattle.step.specs.Scope.{scopeOf}
 use Rattle.step.specs.Step.{stepped, Event, does, happened, ran}
 use Rattle.step.proofs.Soundness.{Valid}
 use Rattle.step.proofs.Cases.{Transition, outline}

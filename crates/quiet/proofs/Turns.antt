@@ -13,7 +13,7 @@ use Rattle.system.specs.System.{processAt, variablesAt, mayTrust}
 use Rattle.plan.specs.declared.Change.{Change}
 use Rattle.plan.specs.declared.Action.{Action}
 use Rattle.plan.specs.declared.Action.the-variants.{Report, Receive, Respond, Crash}
-use Rattle.plan.specs.Scope.{scopeOf}
+use Rattle.step.specs.Scope.{scopeOf}
 use Rattle.step.proofs.Cases.{afterwards, Effect, SameTrust, Doubts, Transition, proposes, follows, records, reproposes, ignores, marks, commits, enters, accepts, declines, crashes}
 use Rattle.agreement.specs.Accepted.{Acceptance}
 use Rattle.agreement.proofs.Invariant.{Recorded, Reached}

@@ -5,7 +5,7 @@ use mathlib.Core.Bool.{Bool, true, false, _&&_, not}
 use mathlib.Core.List.{List}
 use native.Mathlib.Omega.{arith}
 use borrow.Author.Tests.{eqb-true, eq-eqb, ne-eqb, lt-ltb, le-ltb}
-use lib.Dec.{eqb, ltb}
+use lib.Dec.{eqb}
 use lib.ListN.{length}
 use Rattle.view.specs.Logic.{pick, eachUpTo}
 use Rattle.view.proofs.Laws.{each-more, true-is-not-false}
@@ -15,7 +15,6 @@ use Rattle.system.specs.declared.Outcome.{Outcome}
 use Rattle.sound.specs.Sound.{soundSystem}
 use Rattle.plan.specs.declared.Action.{Action}
 use Rattle.plan.specs.Cut.{whole}
-use Rattle.step.specs.Step.{stepped}
 use Rattle.step.specs.Counts.{stepTally}
 use Rattle.image.specs.Image.{imageWidth, decoded, noSystem, systemIn}
 use Rattle.engine.specs.Engine.{Attempts}

@@ -1,11 +1,8 @@
 -- A settling run does no more steps than its budget, and is refused with 1 or not at all.
 use Prim.Native.Nat.{ℕ, zero, suc, _≤_}
-use mathlib.Core.Path.{_≡_, refl}
-use mathlib.Core.Bool.{Bool, true, false}
 use native.Mathlib.Omega.{arith}
 use borrow.Author.Tests.{ltb-true}
 use lib.Dec.{eqb, ltb}
-use Rattle.view.specs.Logic.{pick}
 use Rattle.view.proofs.Laws.{by-pick, each-keeps}
 use Rattle.system.specs.declared.System.{System}
 use Rattle.sound.specs.Sound.{soundSystem}

@@ -18,7 +18,7 @@ use Rattle.sheet.specs.declared.parse.Opening.the-variants.{Bad as BadFi
 use Rattle.sheet.specs.declared.parse.Line.{Line}
 use Rattle.sheet.specs.declared.parse.Line.the-variants.{Bad, Step, Settle}
 use Rattle.sheet.specs.declared.parse.Field.{Field}
-use Rattle.sheet.specs.Grammar.{view, Form, form, piece, passed, ended, onward, some, read}
+use Rattle.sheet.specs.Grammar.{Form, form, piece, passed, ended, onward, some}
 use Rattle.sheet.specs.Parse.{process, firstForms, laterForms, opened, parsed, fitting, columnFrom, digitAt, viewFrom, cutOrBad, readOn}
 use Rattle.sheet.proofs.Forms.{readFrom, read-from, goes-on, is-stuck, breaks-off, ends, same-next}
 use Rattle.sheet.proofs.Parsing.{allPlain, values, before, form-fits, form-differs, text-fits, text-fails, fitting-form, fitting-line, Shut, AllShut, none, also, viewing, view-within, view-read, no-view-read}

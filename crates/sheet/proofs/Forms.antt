@@ -1,6 +1,6 @@
 -- Laws of forms, whatever the list of them: a text begins a line of one of the forms exactly if it can be gone on with to a line
 -- of one; the column of a line is one more than the bytes that can be followed; and a line is read byte by byte.
-use Prim.Native.Nat.{ℕ, zero, suc, _+_, _≤_, _<_}
+use Prim.Native.Nat.{ℕ, zero, suc, _+_, _≤_}
 use Prim.Native.Char.{code}
 use mathlib.Core.Path.{_≡_, refl, sym, _∙_, ap, subst}
 use mathlib.Core.Bool.{Bool, true, false, _||_}
@@ -12,7 +12,7 @@ use lib.ListN.{length, take}
 use lib.Seq.{take-all}
 use Rattle.view.specs.Logic.{pick}
 use Rattle.view.specs.View.{with}
-use Rattle.view.proofs.Laws.{true-is-not-false, or-left, or-right, by-pick, by-test}
+use Rattle.view.proofs.Laws.{true-is-not-false, or-left, or-right, by-pick}
 use Rattle.sheet.specs.Grammar.{Piece, byte, size, digit, view, more, Form, form, rises, valueOf, when, passed, ended, onward, endsAs, followed, readings, some, allowed, begins, greatest, column, firstReading, read}
 
 -- ---- two lists of forms, and two texts, one after the other
@@ -44,11 +44,6 @@ followed-on xs (b ∷ bs) m = followed-on (flatMap (onward b) xs) bs m
 readings-append : {A : Type 0} (xs ys : List (Form A)) (l : List ℕ) → readings (xs ++ ys) l ≡ readings xs l ++ readings ys l
 unfolding readings
 readings-append xs ys l = rw (followed-append xs ys l, flat-append endsAs (followed xs l) (followed ys l))
-
-none-is : {X : Type 0} (xs : List X) → some xs ≡ false → xs ≡ []
-unfolding some
-none-is [] e = refl
-none-is (x ∷ xs) e = true-is-not-false e
 
 -- ---- every form can be gone on with to a line of it
 completion : List Piece → List ℕ

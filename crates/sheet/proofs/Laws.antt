@@ -1,6 +1,6 @@
 -- Laws of a sheet's lines.
-use Prim.Native.Nat.{ℕ, suc, max, _+_, _-_, _≤_, _<_}
-use mathlib.Core.Path.{_≡_, refl, sym, _∙_, ap}
+use Prim.Native.Nat.{ℕ, suc, _+_, _-_, _≤_, _<_}
+use mathlib.Core.Path.{_≡_, refl, ap}
 use mathlib.Core.Bool.{Bool, true, false}
 use mathlib.Core.List.{List, [], _∷_}
 use native.Mathlib.Omega.{arith}
@@ -9,7 +9,7 @@ use native.Mathlib.Numerals.{add-one}
 use borrow.Author.Tests.{eq-eqb, ne-eqb, lt-ltb, le-ltb, ltb-true, ltb-false}
 use lib.Dec.{ltb}
 use lib.ListN.{length, getD, take, drop, length-drop, drop-of-length-le}
-use lib.Seq.{drop-cons, drop-drop, take-all}
+use lib.Seq.{drop-cons, drop-drop}
 use Rattle.view.specs.Logic.{pick}
 use Rattle.sheet.specs.declared.lines.Found.the-variants.{End, Span}
 use Rattle.sheet.specs.Lines.{isFeed, inFirst, withByte, linesOf, lineLength, nextPlace, lineBetween, lineAt}

@@ -1,20 +1,20 @@
 -- How the code goes through a line, and what that means for the forms: a part of a form without a view, and a view.
-use Prim.Native.Nat.{ℕ, zero, suc, _+_, _-_, _≤_, _<_}
+use Prim.Native.Nat.{ℕ, suc, _+_, _-_, _≤_, _<_}
 use mathlib.Core.Path.{_≡_, refl, sym, _∙_, ap}
 use mathlib.Core.Bool.{Bool, true, false, _&&_, not}
 use mathlib.Core.List.{List, [], _∷_, _++_, map, flatMap, append-assoc}
 use native.Mathlib.Omega.{arith}
 use native.Mathlib.Nat.{add-zero}
 use native.Mathlib.Numerals.{add-one}
-use borrow.Author.Tests.{eq-eqb, ne-eqb, eqb-true, ltb-true, ltb-false, leb-true}
+use borrow.Author.Tests.{eq-eqb, ne-eqb, eqb-true, ltb-true, leb-true}
 use lib.Dec.{eqb, ltb, leb}
-use lib.ListN.{length, getD, take, drop, length-drop, drop-of-length-le}
+use lib.ListN.{length, getD, drop, length-drop, drop-of-length-le}
 use lib.Seq.{drop-cons}
 use Rattle.view.specs.Logic.{pick}
 use Rattle.view.specs.View.{with}
 use Rattle.view.proofs.Laws.{true-is-not-false, by-pick, by-test, by-number, and-left, and-right, and-intro}
 use Rattle.sheet.specs.declared.parse.Field.{Field}
-use Rattle.sheet.specs.Grammar.{Piece, byte, size, digit, view, more, Form, form, isCapital, piece, rises, valueOf, when, passed, ended, onward, endsAs, some}
+use Rattle.sheet.specs.Grammar.{Piece, view, more, Form, form, isCapital, piece, rises, valueOf, when, passed, ended, onward, endsAs, some}
 use Rattle.sheet.specs.Parse.{stands, fitting, columnBy, columnFrom, digitAt, field, risen, viewFrom}
 use Rattle.sheet.proofs.Forms.{append-none, readFrom, goes-on, is-stuck, breaks-off, ends, same-next, same-end}
 

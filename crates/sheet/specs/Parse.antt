@@ -3,7 +3,7 @@
 -- the step, K one digit; after `u` or `s` it is a bad line." Document 01, "Layouts": "Settling (S-4): the sheet line `q`".
 use Prim.Native.Nat.{ℕ, suc, _+_}
 use Prim.Native.Char.{code}
-use mathlib.Core.Bool.{Bool, true, false, _&&_}
+use mathlib.Core.Bool.{Bool, _&&_}
 use mathlib.Core.List.{List, [], _∷_, _++_}
 use lib.Dec.{eqb}
 use lib.ListN.{length, getD, drop}

@@ -8,7 +8,6 @@ use mathlib.Core.List.{List, [], _∷_}
 use lib.ListN.{replicate}
 use Rattle.view.specs.Logic.{pick, allUpTo, at, put}
 use Rattle.view.specs.View.{has, within, everyone}
-use Rattle.view.specs.declared.GroupIndex.{GroupIndex}
 use Rattle.channel.specs.declared.Message.{Message}
 use Rattle.channel.specs.declared.Message.the-variants.{Propose, Retry, Acc, Commit}
 use Rattle.channel.specs.declared.Channel.{Channel}

@@ -22,7 +22,7 @@ use Rattle.plan.specs.declared.Action.{Action}
 use Rattle.plan.specs.declared.Action.the-variants.{Report, Receive, Respond, Crash}
 use Rattle.plan.specs.Fields.{withView, withNext, withAcks, proposing, reproposing}
 use Rattle.plan.specs.Plan.{assigning, recording, entering, noMessage}
-use Rattle.plan.specs.Scope.{scopeOf}
+use Rattle.step.specs.Scope.{scopeOf}
 use Rattle.step.proofs.Frames.{Shape}
 use Rattle.step.proofs.Soundness.{SoundProposal}
 

@@ -29,7 +29,7 @@ use Rattle.plan.specs.declared.Action.the-variants.{Report, Receive, Respond, C
 use Rattle.plan.specs.declared.Step.{Step}
 use Rattle.plan.specs.Plan.{newViewPlan, reportPlan, committingPlan, messagePlan, receivePlan, respondPlan}
 use Rattle.plan.specs.Fields.{withAcks}
-use Rattle.plan.specs.Scope.{scopeOf}
+use Rattle.step.specs.Scope.{scopeOf}
 use Rattle.plan.specs.Cut.{cutBy}
 use Rattle.step.specs.Step.{planOf, takenOff, suspectedIfNamed, carriedOut, permitted, attempted, stepped}
 use Rattle.step.proofs.Cases.{waitingAt, Known, Taken, Doubts, Marking, present, stale, Transition, proposes, follows, records, reproposes, ignores, marks, commits, enters, accepts, declines, crashes}

@@ -33,7 +33,7 @@ use Rattle.plan.specs.declared.Cut.{Cut}
 use Rattle.plan.specs.declared.Cut.the-variants.{Whole, After}
 use Rattle.plan.specs.declared.Step.{Step}
 use Rattle.plan.specs.Plan.{newViewPlan, reportPlan, committingPlan, messagePlan, receivePlan, respondPlan}
-use Rattle.plan.specs.Scope.{scopeOf}
+use Rattle.step.specs.Scope.{scopeOf}
 use Rattle.plan.specs.Cut.{cutShort, cutBy}
 use Rattle.step.specs.Counts.{eventTally, eventsTally}
 use Rattle.step.specs.Step.{planOf, takenOff, doubted, changedAt, emptiedFrom, crashedAt, crashedIf, effected, permitted, carriedOut, attempted, stepped, Event, does, happened, ran}

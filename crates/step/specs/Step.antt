@@ -18,7 +18,7 @@ use Rattle.plan.specs.declared.Action.{Action}
 use Rattle.plan.specs.declared.Action.the-variants.{Report, Receive, Respond, Crash}
 use Rattle.plan.specs.declared.Step.{Step}
 use Rattle.plan.specs.Plan.{changed, reportPlan, receivePlan, respondPlan, crashPlan}
-use Rattle.plan.specs.Scope.{scopeOf}
+use Rattle.step.specs.Scope.{scopeOf}
 use Rattle.plan.specs.Cut.{cutBy}
 
 -- what the acting process plans, where it is not cut

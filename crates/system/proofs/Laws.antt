@@ -4,9 +4,8 @@ use mathlib.Core.Path.{_≡_, refl}
 use mathlib.Core.Bool.{Bool, true, false, _&&_}
 use native.Mathlib.Omega.{arith}
 use Rattle.view.specs.Logic.{pick, isOneOf, placeOf}
-use Rattle.view.proofs.Laws.{and-intro, is-one-of, not-found, found-next, put-at}
-use Rattle.system.specs.declared.System.{System}
-use Rattle.system.specs.System.{channelNumber, channelAt, withChannel}
+use Rattle.view.proofs.Laws.{and-intro, is-one-of, not-found, found-next}
+use Rattle.system.specs.System.{channelNumber}
 
 -- ---- the number of a channel
 pub number-in : (q p : ℕ) → (isOneOf 8 q && isOneOf 8 p) ≡ true → channelNumber q p ≡ 8 * (q - 1) + p
@@ -51,7 +50,3 @@ module _ (q p from to : ℕ) (sender : from ≡ placeOf 8 q) (receiver : to ≡ 
       go : (b : Bool) → (b && false) ≡ false
       go true = refl
       go false = refl
-
-pub same-channel : (s : System) (q p : ℕ) → withChannel s q p (channelAt s q p) ≡ s
-unfolding withChannel channelAt
-same-channel s q p = rw put-at

@@ -3,7 +3,6 @@ use Prim.Native.Nat.{ℕ, zero, suc, _*_, _/_, _%_, _∣_, _≤_, _<_}
 use mathlib.Core.Path.{_≡_, refl, sym, _∙_, ap, subst}
 use native.Mathlib.Nat.{mod-lt, dvd-refl, dvd-zero, dvd-mod-iff, pos-of-dvd-of-pos, mul-div-cancel', mul-dvd-mul-left, dvd-of-mul-dvd-mul-left, eq-one-of-dvd-one, mul-one, mul-assoc, mul-comm}
 use native.Mathlib.Omega.{arith}
-use Rattle.tallies.specs.declared.share.Share.{Share}
 use Rattle.tallies.specs.Share.{euclid, gcd, inLowestTerms, LowestTerms}
 
 -- ---- Euclid's rule

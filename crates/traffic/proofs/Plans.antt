@@ -27,7 +27,7 @@ use Rattle.plan.specs.declared.Action.{Action}
 use Rattle.plan.specs.declared.Action.the-variants.{Report, Receive, Respond, Crash}
 use Rattle.plan.specs.Fields.{withAcks}
 use Rattle.plan.specs.Plan.{newViewPlan, reportPlan, committingPlan, messagePlan, receivePlan, respondPlan}
-use Rattle.plan.specs.Scope.{scopeOf}
+use Rattle.step.specs.Scope.{scopeOf}
 use Rattle.plan.specs.Cut.{cutShort, cutBy}
 use Rattle.step.specs.Step.{planOf}
 use Rattle.step.proofs.Soundness.{Sound}

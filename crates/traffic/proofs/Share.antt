@@ -20,7 +20,7 @@ use Rattle.system.specs.System.{processAt, withChannel}
 use Rattle.system.specs.Fresh.{freshVariables, freshSystem}
 use Rattle.plan.specs.declared.Scope.{Scope}
 use Rattle.plan.specs.declared.Step.{Step}
-use Rattle.plan.specs.Scope.{scopeOf}
+use Rattle.step.specs.Scope.{scopeOf}
 use Rattle.plan.specs.Cut.{cutBy}
 use Rattle.step.specs.Step.{planOf, takenOff, attempted, stepped, Event, does, happened}
 use Rattle.step.specs.Counts.{planTally, eventTally, eventsTally, stillWaiting, tallyOf}

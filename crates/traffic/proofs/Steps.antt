@@ -17,7 +17,7 @@ use Rattle.system.specs.System.{processAt, variablesAt, channelAt, withTrust, t
 use Rattle.plan.specs.declared.Plan.{Plan}
 use Rattle.plan.specs.declared.Scope.{Scope}
 use Rattle.plan.specs.declared.Step.{Step}
-use Rattle.plan.specs.Scope.{scopeOf}
+use Rattle.step.specs.Scope.{scopeOf}
 use Rattle.plan.specs.Cut.{cutBy}
 use Rattle.step.specs.Step.{planOf, takenOff, placed, doubted, changedAt, crashedAt, crashedIf, effected, carriedOut, permitted, attempted, stepped, Event, does, happened}
 use Rattle.step.specs.Counts.{waitingIn, waitingTowards, one, vanishesAt, vanished, lostAt, planTally, tallyIf, stepTally, eventTally}

@@ -6,7 +6,7 @@ use lib.ListN.{length}
 use Rattle.system.specs.declared.System.{System}
 use Rattle.system.specs.System.{variablesAt}
 use Rattle.system.specs.Fresh.{freshOf}
-use Rattle.plan.specs.Scope.{scopeOf}
+use Rattle.step.specs.Scope.{scopeOf}
 use Rattle.step.specs.Step.{Event, does, ran}
 use Rattle.step.specs.Counts.{eventTally}
 use Rattle.step.specs.Tallied.{freshTally}

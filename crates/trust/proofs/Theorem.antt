@@ -3,19 +3,19 @@
 -- turns the mark on, and nothing else changes the two views or the mark.
 use Prim.Native.Nat.{ℕ, _≤_}
 use mathlib.Core.Path.{_≡_, refl, sym, _∙_, ap, subst}
-use mathlib.Core.Bool.{Bool, true, false, _&&_, _||_, not}
+use mathlib.Core.Bool.{Bool, true, false, _||_, not}
 use mathlib.Core.List.{List, [], _∷_}
 use native.Mathlib.Omega.{arith}
 use Rattle.view.specs.declared.ProcessId.{ProcessId}
 use Rattle.view.specs.Logic.{pick, isOneOf}
-use Rattle.view.specs.View.{has, within, everyone}
+use Rattle.view.specs.View.{has, within}
 use Rattle.view.proofs.Laws.{by-pick, by-test, by-number, true-is-not-false, one-of, is-one-of}
 use Rattle.view.proofs.Sets.{has-number, has-inside, everyone-has}
 use Rattle.system.specs.declared.System.{System}
 use Rattle.system.specs.declared.Variables.{Variables}
 use Rattle.system.specs.declared.Outcome.{Outcome}
-use Rattle.system.specs.System.{processAt, variablesAt, mayTrust}
-use Rattle.system.specs.Fresh.{freshVariables, freshProcess, freshSystem, freshOf}
+use Rattle.system.specs.System.{mayTrust}
+use Rattle.system.specs.Fresh.{freshVariables, freshSystem, freshOf}
 use Rattle.sound.specs.Sound.{soundSystem}
 use Rattle.plan.specs.declared.Cut.{Cut}
 use Rattle.plan.specs.declared.Step.{Step}

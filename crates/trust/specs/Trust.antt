@@ -12,7 +12,6 @@ use Rattle.system.specs.declared.System.{System}
 use Rattle.system.specs.System.{variablesAt, mayTrust}
 use Rattle.system.specs.Fresh.{freshOf}
 use Rattle.plan.specs.declared.Cut.{Cut}
-use Rattle.plan.specs.declared.Step.{Step}
 use Rattle.plan.specs.declared.Action.the-variants.{Report}
 use Rattle.step.specs.Step.{stepped, Event, happened, ran}
 

@@ -10,7 +10,7 @@ use native.Mathlib.Numerals.{add-one}
 use native.Mathlib.Decide.{decLe, ℕ-discrete}
 use borrow.Author.Tests.{leb-true, le-leb}
 use lib.Dec.{leb}
-use lib.ListN.{length, getD, set, drop, replicate, length-set, length-map, List·getD-eq-default}
+use lib.ListN.{length, getD, set, replicate, length-set, length-map, List·getD-eq-default}
 use lib.Seq.{getD-set-same, getD-set-other, set-set, set-getD, set-out}
 use Rattle.view.specs.Logic.{pick, allUpTo, eachUpTo, at, put, isOneOf, placeOf}
 
@@ -131,10 +131,6 @@ pub each-end : {A : Type 0} (P : A → Type 0) (xs : List A) (x : A) → Each P 
 each-end P [] x e h = (h, tt)
 each-end P (y ∷ xs) x e h = (e .0, each-end P xs x (e .1) h)
 
-pub each-rest : {A : Type 0} (P : A → Type 0) (xs : List A) → Each P xs → Each P (drop 1 xs)
-each-rest P [] e = tt
-each-rest P (x ∷ xs) e = e .1
-
 pub each-as : {A : Type 0} (P Q : A → Type 0) → ((x : A) → P x → Q x) → (xs : List A) → Each P xs → Each Q xs
 each-as P Q f [] e = tt
 each-as P Q f (x ∷ xs) e = (f x (e .0), each-as P Q f xs (e .1))
@@ -173,11 +169,6 @@ unfolding at put
 at-put-other l zero j a d h = refl
 at-put-other l (suc k) zero a d h = refl
 at-put-other l (suc k) (suc j) a d h = getD-set-other l k j a d (λ e. h (ap suc e))
-
-pub put-put : {A : Type 0} (l : List A) (k : ℕ) (a b : A) → put (put l k a) k b ≡ put l k b
-unfolding put
-put-put l zero a b = refl
-put-put l (suc k) a b = set-set l k a b
 
 pub put-at : {A : Type 0} (l : List A) (k : ℕ) (d : A) → put l k (at l k d) ≡ l
 unfolding at put

@@ -14,6 +14,7 @@ pub mod tallied;
 pub mod ways;
 
 use reference::{Action, Step};
+use std::thread;
 
 /// The step as the library's wrapper has it.
 pub fn our_step(step: Step) -> lobstercreel::Step {
@@ -24,4 +25,12 @@ pub fn our_step(step: Step) -> lobstercreel::Step {
         Action::Crash { p } => lobstercreel::Action::Crash { p: p.0 },
     };
     lobstercreel::Step { action, cut: step.cut }
+}
+
+/// What the work gives for 0 and for 1, done side by side. A difference found in either ends the test.
+pub fn halves<T: Send>(work: impl Fn(u64) -> T + Sync) -> [T; 2] {
+    thread::scope(|scope| {
+        let odd = scope.spawn(|| work(1));
+        [work(0), odd.join().expect("a half that found no difference")]
+    })
 }

@@ -76,6 +76,12 @@ impl Met {
         *self.0.entry(way).or_default() += 1;
     }
 
+    pub fn add(&mut self, other: Met) {
+        for (way, times) in other.0 {
+            *self.0.entry(way).or_default() += times;
+        }
+    }
+
     /// Prints each way with its count; answers whether all were met often enough.
     pub fn all_met(&self) -> bool {
         let listed = || WAYS.iter().chain(classes::WAYS);

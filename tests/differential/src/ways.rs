@@ -171,6 +171,12 @@ impl Ways {
         *self.0.entry((by, way)).or_default() += 1;
     }
 
+    pub fn add(&mut self, other: Ways) {
+        for (met, times) in other.0 {
+            *self.0.entry(met).or_default() += times;
+        }
+    }
+
     fn times(&self, by: By, way: &'static str) -> u64 {
         self.0.get(&(by, way)).copied().unwrap_or(0)
     }

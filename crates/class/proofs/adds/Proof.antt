@@ -1,6 +1,5 @@
 -- `class::adds`: by the finding.
 use borrow.Author.Needs.{needs}
-use mathlib.Core.Path.{sym}
 use Rattle.class.specs.Class.{addsOf}
 use Rattle.class.proofs.adds.Statement.{statement}
 use Rattle.class.proofs.adds.Tie as tie

@@ -4,7 +4,7 @@ use mathlib.Core.Path.{_≡_, sym, _∙_, ap}
 use native.Mathlib.Omega.{arith}
 use borrow.Author.Needs.{needs}
 use Rattle.view.specs.Logic.{sumUpTo}
-use Rattle.step.specs.Counts.{one, vanishesAt, vanished}
+use Rattle.step.specs.Counts.{one, vanishesAt}
 use Rattle.image.specs.Image.{systemIn}
 use Rattle.effects.proofs.Halves.{halved, not-halved, halved-more, turns-left}
 use Rattle.counting.proofs.Counting.{sum-none, sum-more, one-low, all-vanished}

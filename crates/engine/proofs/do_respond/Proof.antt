@@ -1,10 +1,10 @@
 -- `engine::do_respond`: by the guard, and by what is chosen.
 use mathlib.Core.Path.{refl}
-use Rattle.plan.specs.Scope.{scopeOf}
+use Rattle.step.specs.Scope.{scopeOf}
 use Rattle.plan.specs.Choice.{respondedPlan}
 use Rattle.engine.proofs.Given.{turned-away, passes}
-use Rattle.engine.proofs.Alternatives.{respond-refused, respond-chosen}
-use Rattle.engine.proofs.Carrying.{refusing-gives}
+use Rattle.engine.proofs.Chosen.{respond-refused, respond-chosen}
+use Rattle.alternatives.proofs.Carrying.{refusing-gives}
 use borrow.Author.Needs.{needs}
 use Rattle.engine.proofs.do_respond.Statement.{statement}
 use Rattle.engine.proofs.do_respond.Tie as tie

@@ -6,7 +6,7 @@ use borrow.Author.Tests.{eq-eqb, ne-eqb}
 use lib.ListN.{length}
 use Rattle.view.specs.Logic.{pick, eachUpTo}
 use Rattle.view.proofs.Laws.{each-more}
-use Rattle.image.specs.Image.{imageWidth, systemIn}
+use Rattle.image.specs.Image.{systemIn}
 use Rattle.image.proofs.Becoming.{changes, stays}
 use Rattle.fresh.specs.Fresh.{blankSystem, withFresh}
 use Rattle.fresh.proofs.Blank.{all-fresh}

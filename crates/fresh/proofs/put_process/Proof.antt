@@ -1,5 +1,4 @@
 -- `fresh::put_process`: the variables, then the entry.
-use mathlib.Core.Path.{_≡_, _∙_, ap}
 use borrow.Author.Needs.{needs}
 use Rattle.system.specs.Fresh.{freshVariables}
 use Rattle.fresh.specs.Fresh.{withFresh}

@@ -23,8 +23,8 @@ loop-holds c = (omega arith, c .before .size .ensures, c .sound-process .ensures
 loop-again : tie.Need-loop-again Inv-loop μ-loop
 unfolding soundChannelAt
 loop-again c =
-    let i = c .before .before .before .before .loop .inv in
-    (omega arith, i .1, one-more _ _ _ _ _ _ (i .2) (c .and .ensures) (rw (c .before .before .variables-at .ensures, i .1) at (c .before .sound-channel .ensures)))
+    let i = c .before .before .before .loop .inv in
+    (omega arith, i .1, one-more _ _ _ _ _ _ (i .2) (c .and .ensures) (rw (i .1) at (c .before .sound-channel-at .ensures)))
 
 returns : tie.Need-returns Inv-loop μ-loop
 unfolding soundAt testedUpTo
@@ -43,7 +43,6 @@ sound-sender-spec =
     (λ c κs. search needs)
     loop-holds
     (λ c. search needs)
-    (λ c κs. search needs)
     (λ c κs. search needs)
     (λ c κs. search needs)
     (λ c. search needs)

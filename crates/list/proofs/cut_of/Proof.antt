@@ -1,7 +1,7 @@
 -- `list::cut_of`: by the byte.
 use borrow.Author.Tests.{eq-eqb, ne-eqb}
 use Rattle.view.specs.Logic.{pick}
-use Rattle.engine.specs.Engine.{cutOf}
+use Rattle.list.specs.List.{cutOf}
 use Rattle.list.proofs.cut_of.Statement.{statement}
 use Rattle.list.proofs.cut_of.Tie as tie
 

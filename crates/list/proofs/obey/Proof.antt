@@ -1,7 +1,7 @@
 -- `list::obey`: by the kind, and whether the system is sound.
 use mathlib.Core.Path.{refl, sym, _∙_}
 use native.Mathlib.Omega.{arith}
-use Rattle.engine.specs.Engine.{obeyed}
+use Rattle.list.specs.List.{obeyed}
 use Rattle.list.proofs.Lists.{no-order, report-order, receive-order, respond-order, crash-order, not-obeyed, obeys}
 use borrow.Author.Needs.{needs}
 use Rattle.list.proofs.obey.Statement.{statement}

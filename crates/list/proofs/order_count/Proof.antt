@@ -1,7 +1,7 @@
 -- `list::order_count`: by whether the list breaks off.
 use borrow.Author.Tests.{eq-eqb, ne-eqb}
 use Rattle.view.specs.Logic.{pick}
-use Rattle.engine.specs.Engine.{orderCount}
+use Rattle.list.specs.List.{orderCount}
 use borrow.Author.Needs.{needs}
 use Rattle.list.proofs.order_count.Statement.{statement}
 use Rattle.list.proofs.order_count.Tie as tie

@@ -7,7 +7,7 @@ use mathlib.Core.List.{_++_}
 use lib.ListN.{length, length-set, take, drop}
 use Rattle.sound.specs.Sound.{soundSystem}
 use Rattle.image.specs.Image.{systemIn}
-use Rattle.engine.specs.Engine.{Unknown, orderCount, ordersFrom, ordersIn, obeyed, numbersOf, allRefused}
+use Rattle.list.specs.List.{Unknown, orderCount, ordersFrom, ordersIn, obeyed, numbersOf, allRefused}
 use Rattle.list.proofs.Lists.{SoFar, none-yet, one-further, all-told, all-obeyed, still-kept, orders-long, order-inside, breaks-off, whole-first, order-here}
 use borrow.Author.Needs.{needs}
 use Rattle.list.proofs.perform_all.Statement.{statement}

@@ -1,8 +1,7 @@
 -- `settle::rounds`: before each round there are rounds enough ahead.
 use Prim.Native.Nat.{_-_}
-use mathlib.Core.Path.{_≡_, refl, sym, _∙_, subst}
+use mathlib.Core.Path.{_≡_, refl, _∙_}
 use lib.ListN.{length}
-use Rattle.settle.specs.declared.StepsDone.{StepsDone}
 use Rattle.settle.proofs.Laws.{Ahead, at-start, round-idle, round-more, round-less}
 use borrow.Author.Needs.{needs}
 use Rattle.settle.proofs.rounds.Statement.{statement}

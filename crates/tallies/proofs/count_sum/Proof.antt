@@ -1,5 +1,4 @@
 -- `tallies::count_sum`: by whether there is room for the sum.
-use mathlib.Core.Path.{refl}
 use native.Mathlib.Omega.{arith}
 use borrow.Author.Needs.{needs}
 use Rattle.tallies.proofs.count_sum.Statement.{statement}

@@ -4,6 +4,7 @@
 
 use differential::classes::{Class, DIRECTORY};
 use differential::dice::Dice;
+use differential::halves;
 use differential::tallied::Met;
 use differential::ways::AT_LEAST;
 use std::env;
@@ -20,20 +21,27 @@ fn main() {
         .map(|program| fs::canonicalize(&program).unwrap_or_else(|_| panic!("no {program:?}")))
         .collect();
     assert!(!programs.is_empty(), "usage: classes PROGRAM...");
-    let mut met = Met::default();
-    for seed in 0..CLASSES {
-        let folder = env::temp_dir().join(format!("class-{}-{seed}", process::id()));
-        let class = Class::by_chance(&mut Dice::new(seed ^ 0xc1a55), &mut met);
-        lay_out(&class, &folder);
-        let wanted = reference::class_output(&class.names, |name| found(&class, name));
-        for program in &programs {
-            compare(program, &folder, &wanted, seed);
-        }
-        fs::remove_dir_all(&folder).expect("its own folder");
-    }
+    let [mut met, odd] = halves(|half| {
+        let mut met = Met::default();
+        (half..CLASSES).step_by(2).for_each(|seed| class(seed, &programs, &mut met));
+        met
+    });
+    met.add(odd);
     println!("classes: seeds 0 to {}", CLASSES - 1);
     assert!(met.all_met(), "a way was met less than {AT_LEAST} times");
     println!("no difference; each way met {AT_LEAST} times or more");
+}
+
+/// One class by chance, in a folder of its own.
+fn class(seed: u64, programs: &[PathBuf], met: &mut Met) {
+    let folder = env::temp_dir().join(format!("class-{}-{seed}", process::id()));
+    let class = Class::by_chance(&mut Dice::new(seed ^ 0xc1a55), met);
+    lay_out(&class, &folder);
+    let wanted = reference::class_output(&class.names, |name| found(&class, name));
+    for program in programs {
+        compare(program, &folder, &wanted, seed);
+    }
+    fs::remove_dir_all(&folder).expect("its own folder");
 }
 
 /// What the papers' program would find by a name, told from the class and not from the folder.

@@ -4,6 +4,7 @@
 
 use differential::dice::Dice;
 use differential::faults::{DAMAGES, FAULTS};
+use differential::halves;
 use differential::litter::litter;
 use differential::our_step;
 use differential::poised::{disturb, poise};
@@ -37,16 +38,28 @@ fn main() {
     println!("       sheets 0 to {}", SHEETS - 1);
     let mut ways = Ways::default();
     fresh_systems(&mut ways);
-    (0..RUNS).for_each(|seed| run(seed, &mut ways));
-    (0..HANDED_IN).for_each(|seed| handed_in(seed, &mut ways));
-    (0..DAMAGED).for_each(|seed| damaged(seed, &mut ways));
-    (0..SETTLED).for_each(|seed| settled(seed, &mut ways));
+    ways.add(each(RUNS, run));
+    ways.add(each(HANDED_IN, handed_in));
+    ways.add(each(DAMAGED, damaged));
+    ways.add(each(SETTLED, settled));
     wrong_lengths(&mut ways);
-    (0..SHEETS).for_each(|seed| sheet(seed, &mut ways));
+    ways.add(each(SHEETS, sheet));
     every_room(&mut ways);
     let met = ways.all_met();
     assert!(met, "a way was met less than {AT_LEAST} times");
     println!("no difference; each way met {AT_LEAST} times or more");
+}
+
+/// The part for each of its seeds, the even and the odd ones side by side.
+fn each(seeds: u64, part: fn(u64, &mut Ways)) -> Ways {
+    let [even, odd] = halves(|half| {
+        let mut ways = Ways::default();
+        (half..seeds).step_by(2).for_each(|seed| part(seed, &mut ways));
+        ways
+    });
+    let mut ways = even;
+    ways.add(odd);
+    ways
 }
 
 fn our_number(answer: ours::Answer) -> u8 {

@@ -1,7 +1,7 @@
 -- `class::names::gather`: the line at the place, or nothing past the chunk's end.
 use borrow.Author.Needs.{needs}
 use native.Mathlib.Omega.{arith}
-use Rattle.class.proofs.Gathering.{Here, line-here, taken-up-to, none-taken}
+use Rattle.class.proofs.Gathering.{line-here, taken-up-to, none-taken}
 use Rattle.class.proofs.names.gather.Statement.{statement}
 use Rattle.class.proofs.names.gather.Tie as tie
 

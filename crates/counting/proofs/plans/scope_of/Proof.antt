@@ -1,6 +1,6 @@
 -- `plans::scope_of`: by the kind of the step.
 use mathlib.Core.Path.{sym, ap}
-use Rattle.plan.specs.Scope.{scopeOf}
+use Rattle.step.specs.Scope.{scopeOf}
 use borrow.Author.Needs.{needs}
 use Rattle.counting.proofs.plans.scope_of.Statement.{statement}
 use Rattle.counting.proofs.plans.scope_of.Tie as tie

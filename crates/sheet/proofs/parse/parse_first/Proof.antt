@@ -1,8 +1,7 @@
 -- `parse::parse_first`: the line is of its one form, or not.
 use borrow.Author.Needs.{needs}
-use mathlib.Core.Path.{sym, ap, _∙_}
+use mathlib.Core.Path.{sym}
 use Rattle.print.specs.Text.{bytes}
-use Rattle.sheet.specs.declared.parse.Opening.the-variants.{Fresh}
 use Rattle.sheet.proofs.FirstBytes.{opening-good, opening-bad}
 use Rattle.sheet.proofs.parse.parse_first.Statement.{statement}
 use Rattle.sheet.proofs.parse.parse_first.Tie as tie

@@ -1,5 +1,4 @@
 -- `parse::parse_settle`: the line is one byte, or goes on.
-use borrow.Author.Needs.{needs}
 use mathlib.Core.Path.{sym}
 use Rattle.sheet.proofs.FirstBytes.{settle-good, settle-bad}
 use Rattle.sheet.proofs.parse.parse_settle.Statement.{statement}

@@ -1,0 +1,2 @@
+-- What any step answers and leaves in an image.
+pub mod Gives

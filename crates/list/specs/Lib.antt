@@ -1,0 +1,2 @@
+-- What a list of steps on an image is.
+pub mod List
