@@ -8,9 +8,11 @@ use borrow.Author.Tests.{ltb-true, ltb-false}
 use native.Mathlib.Numerals.{add-one}
 use lib.Dec.{ltb}
 use lib.ListN.{length, take, drop, get_or, set, replicate, length-take, length-replicate, get_or-replicate, get_or-eq_default}
-use lib.Seq.{length-take-le, take-append_seam, paste, paste-suc, length-paste, drop-paste, drop-drop}
-use Rattle.io.specs.Counts.{IsPrefixLen}
-use Rattle.input.specs.Received.{Zeros, ReadAt, Received}
+use lib.Seq.{length-take-le, take-append_seam, paste, paste-suc, length-paste, take-paste, drop-paste, drop-drop}
+use Rattle.std.specs.Prelude.{Option}
+use Rattle.std.specs.Io.KnownBytes.{Consumes}
+use Rattle.std.proofs.KnownBytes.{Consumes-trans}
+use Rattle.input.specs.Received.{IsPrefixLen, Zeros, ReadAt, Received}
 
 pub counts : (n : ℕ) (l : List ℕ) → n ≤ length l → IsPrefixLen n l
 counts n l h = (h, sym (length-take-le n l h))
@@ -39,10 +41,6 @@ pub copied_more : (d s now : List ℕ) (at i : ℕ) → at + i < length d → i 
 copied_more d s now at i hd hs e = rw (add-one, e) (paste-suc d at s i 0 hd hs)
 
 -- ---- input read, turn by turn
--- before any read
-pub received_none : (d : List ℕ) → Received false 0 d d
-received_none d = record { counts = counts 0 d (omega arith); long = refl; room = λ e. absurd (let z : ◌≡◌ {A = ℕ} 0 1 = cc in omega arith); kept = refl }
-
 -- one more read puts so many bytes after those that stand there
 pub received_more : {done count : ℕ} {failed : Bool} {before middle after chunk : List ℕ}
     → Received false done before middle → ReadAt failed count done middle after chunk → Received false (done + count) before after
@@ -60,21 +58,11 @@ received_more {done} {count} {failed} {before} {middle} {after} {chunk} so r =
           ∙ drop-drop count done before;
     }
 
--- a read that failed has put nothing
-pub received_failed : {done count : ℕ} {failed : Bool} {before middle after chunk : List ℕ}
-    → Received false done before middle → ReadAt failed count done middle after chunk → done < length middle → failed ≡ true → Received true done before after
-received_failed {done} {count} {failed} {before} {middle} {after} {chunk} so r low e =
-    let more = received_more so r in
-    let same : done + count ≡ done = omega (arith, r.none e) in
-    record {
-      counts = rw same at more.counts;
-      long = more.long;
-      room = λ _. omega (arith, so.long);
-      kept = rw same at more.kept;
-    }
-
--- and one that brought nothing has put nothing
-pub received_all : {done count : ℕ} {failed : Bool} {before middle after chunk : List ℕ}
-    → Received false done before middle → ReadAt failed count done middle after chunk → count ≡ 0 → Received false done before after
-received_all {done} {count} {failed} {before} {middle} {after} {chunk} so r e =
-    let same : done + count ≡ done = omega arith in rw same at (received_more so r)
+-- what stands in the buffer after it is what the reader gave, before and now
+pub consumed_more : {done count : ℕ} {failed : Bool} {before middle after chunk : List ℕ} (a b c : Option (List ℕ))
+    → Received false done before middle → ReadAt failed count done middle after chunk
+    → Consumes a b (take done middle) → Consumes b c (take count chunk) → Consumes a c (take (done + count) after)
+consumed_more {done} {count} {failed} {before} {middle} {after} {chunk} a b c so r p q =
+    let is : take (done + count) after ≡ take done middle ++ take count chunk =
+    ap (take (done + count)) r.stored ∙ take-paste middle done chunk count (omega arith) r.came in
+    rw is (Consumes-trans a b c _ _ p q)

@@ -1,8 +1,11 @@
 -- What is true of a buffer after input was read into it, and of a buffer newly made. What the world sends is free: how many bytes come,
 -- which they are, and whether a read fails. Everything else is fixed.
-use Rattle.std.specs.Prelude.{ℕ, ◌+◌, ◌≤◌, ◌<◌, ◌≡◌, Bool, true, List, length, get_or, drop}
+use Rattle.std.specs.Prelude.{ℕ, ◌+◌, ◌≤◌, ◌<◌, ◌≡◌, Bool, true, List, length, get_or, take, drop}
 use Rattle.std.proofs.Math.Seq.{paste}
-use Rattle.io.specs.Counts.{IsPrefixLen}
+
+-- `&buf[..n]` is in bounds and has n bytes: what std's `read` promises of its count
+abbrev pub IsPrefixLen : ℕ → List ℕ → Type 0
+IsPrefixLen n buf = (n ≤ length buf) × (n ≡ length (take n buf))
 
 -- so many bytes, all of them 0
 pub record Zeros (n : ℕ) (buf : List ℕ) : Type 0 where

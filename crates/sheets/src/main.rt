@@ -1,11 +1,21 @@
 // Runs the worked sheets of data/: a line for each says whether it prints what stands beside it.
-ghost use Rattle.std.specs.Prelude.{◌≡◌, true};
-ghost use Rattle.io.specs.Counts.{IsPrefixLen};
+#![tactic(auto)]
+
+ghost use Rattle.std.specs.Prelude.{◌≡◌, true, length};
+ghost use Rattle.input.specs.Received.{IsPrefixLen};
 ghost use Rattle.run.specs.Output.{output};
 
 use input::{Input, output_buffer, read_input, sheet_buffer};
-use libc::STDOUT_FILENO;
 use print::put_text;
+use std::fs;
+use std::rt::Files;
+
+// Room for the path of a file.
+fn path_buffer() -> [u8; 4096]
+    ensures { 4096 ≡ length result }
+{
+    [0; 4096]
+}
 
 // The path of a file: its name, then its ending.
 fn path_of(path: &mut [u8], name: &[u8], ending: &[u8]) -> usize
@@ -16,21 +26,22 @@ fn path_of(path: &mut [u8], name: &[u8], ending: &[u8]) -> usize
 }
 
 // Reads a file whole. One that cannot be opened counts as a read that failed.
-fn read_file(name: &[u8], ending: &[u8], buf: &mut [u8]) -> Input
+fn read_file(files: &impl Files, name: &[u8], ending: &[u8], buf: &mut [u8]) -> Input
     ensures { IsPrefixLen result.len buf.new }
 {
-    let mut path = io::buffer();
+    let unread = Input {
+        failed: true,
+        len: 0,
+    };
+    let mut path = path_buffer();
     let n = path_of(&mut path, name, ending);
-    let fd = os::open_read(&path[..n]);
-    if fd < 0 {
-        return Input {
-            failed: true,
-            len: 0,
-        };
+    match str::from_utf8(&path[..n]) {
+        Err(_) => unread,
+        Ok(path) => match fs::open(files, path) {
+            Err(_) => unread,
+            Ok(mut file) => read_input(&mut file, buf),
+        },
     }
-    let input = read_input(fd, buf);
-    libc::close(fd);
-    input
 }
 
 // Whether this is what is printed for the sheet.
@@ -39,127 +50,128 @@ fn prints(sheet: &[u8], expected: &[u8]) -> bool
 {
     let mut out = output_buffer();
     let n = run::print_sheet(sheet, &mut out);
-    check::same(&out[..n], expected)
+    &out[..n] == expected
 }
 
-fn say(word: &[u8]) {
-    io::write_all(STDOUT_FILENO, word);
+// What cannot be written is not told: what is missing then shows.
+fn say(rt: &impl Print, word: &[u8]) {
+    let _ = rt.write_all(word);
 }
 
 // Runs one sheet, and says how it came out.
-fn judge(name: &[u8]) {
+fn judge(rt: &(impl Files + Print), name: &[u8]) {
     let mut sheet = sheet_buffer();
     let mut expected = output_buffer();
-    let given = read_file(name, b".sheet", &mut sheet);
-    let wanted = read_file(name, b".out", &mut expected);
+    let given = read_file(rt, name, b".sheet", &mut sheet);
+    let wanted = read_file(rt, name, b".out", &mut expected);
     let given_len = given.len;
     let wanted_len = wanted.len;
-    say(name);
+    say(rt, name);
     if given.failed {
-        say(b" unread\n");
+        say(rt, b" unread\n");
     } else if wanted.failed {
-        say(b" unread\n");
+        say(rt, b" unread\n");
     } else if prints(&sheet[..given_len], &expected[..wanted_len]) {
-        say(b" same\n");
+        say(rt, b" same\n");
     } else {
-        say(b" DIFFERS\n");
+        say(rt, b" DIFFERS\n");
     }
 }
 
 // The worked sheets of document 01, and the example of section 6.6.
-fn worked_sheets() {
-    judge(b"K1");
-    judge(b"K2");
-    judge(b"K3");
-    judge(b"K4");
-    judge(b"K4_full");
-    judge(b"K5");
-    judge(b"K7");
-    judge(b"K9");
-    judge(b"E66");
+fn worked_sheets(rt: &(impl Files + Print)) {
+    judge(rt, b"K1");
+    judge(rt, b"K2");
+    judge(rt, b"K3");
+    judge(rt, b"K4");
+    judge(rt, b"K4_full");
+    judge(rt, b"K5");
+    judge(rt, b"K7");
+    judge(rt, b"K9");
+    judge(rt, b"E66");
 }
 
 // The other sheets that docs/TRAINEES.md speaks of.
-fn examples() {
-    judge(b"two_agree");
-    judge(b"retry");
-    judge(b"goes_on_without");
-    judge(b"mistakes");
-    judge(b"settle");
+fn examples(rt: &(impl Files + Print)) {
+    judge(rt, b"two_agree");
+    judge(rt, b"retry");
+    judge(rt, b"goes_on_without");
+    judge(rt, b"mistakes");
+    judge(rt, b"settle");
 }
 
 // Each refusal, and the lowest where several apply.
-fn refusals() {
-    judge(b"refused_2");
-    judge(b"refused_3");
-    judge(b"refused_4");
-    judge(b"refused_5");
-    judge(b"refused_6");
-    judge(b"refused_7");
-    judge(b"refused_10");
-    judge(b"refused_11");
-    judge(b"refused_13");
-    judge(b"order");
-    judge(b"refused_9");
-    judge(b"sheet_60000");
+fn refusals(rt: &(impl Files + Print)) {
+    judge(rt, b"refused_2");
+    judge(rt, b"refused_3");
+    judge(rt, b"refused_4");
+    judge(rt, b"refused_5");
+    judge(rt, b"refused_6");
+    judge(rt, b"refused_7");
+    judge(rt, b"refused_10");
+    judge(rt, b"refused_11");
+    judge(rt, b"refused_13");
+    judge(rt, b"order");
+    judge(rt, b"refused_9");
+    judge(rt, b"sheet_60000");
 }
 
 // How lines end; first lines that are no good; lines of a wrong form.
-fn forms() {
-    judge(b"empty");
-    judge(b"one_lf");
-    judge(b"no_last_lf");
-    judge(b"only_u");
-    judge(b"trailing_lf");
-    judge(b"empty_lines");
-    judge(b"first_u0");
-    judge(b"first_u9");
-    judge(b"first_u12");
-    judge(b"first_u_alone");
-    judge(b"first_step");
-    judge(b"first_empty");
-    judge(b"first_space");
-    judge(b"first_spaces");
-    judge(b"first_after");
-    judge(b"first_capital");
-    judge(b"first_view");
-    judge(b"first_cr");
-    judge(b"first_no_lf");
-    judge(b"first_settle");
-    judge(b"bad_first");
-    judge(b"later_u");
-    judge(b"digits");
-    judge(b"bad_views");
-    judge(b"bad_forms");
-    judge(b"columns");
-    judge(b"settle_bad");
-    judge(b"odd_bytes");
+fn forms(rt: &(impl Files + Print)) {
+    judge(rt, b"empty");
+    judge(rt, b"one_lf");
+    judge(rt, b"no_last_lf");
+    judge(rt, b"only_u");
+    judge(rt, b"trailing_lf");
+    judge(rt, b"empty_lines");
+    judge(rt, b"first_u0");
+    judge(rt, b"first_u9");
+    judge(rt, b"first_u12");
+    judge(rt, b"first_u_alone");
+    judge(rt, b"first_step");
+    judge(rt, b"first_empty");
+    judge(rt, b"first_space");
+    judge(rt, b"first_spaces");
+    judge(rt, b"first_after");
+    judge(rt, b"first_capital");
+    judge(rt, b"first_view");
+    judge(rt, b"first_cr");
+    judge(rt, b"first_no_lf");
+    judge(rt, b"first_settle");
+    judge(rt, b"bad_first");
+    judge(rt, b"later_u");
+    judge(rt, b"digits");
+    judge(rt, b"bad_views");
+    judge(rt, b"bad_forms");
+    judge(rt, b"columns");
+    judge(rt, b"settle_bad");
+    judge(rt, b"odd_bytes");
 }
 
 // Stops, cut steps, late answers, full lines, agreements, and settling runs.
-fn runs() {
-    judge(b"second_stop");
-    judge(b"late_retry");
-    judge(b"retry_not_least");
-    judge(b"full_line");
-    judge(b"record_waits");
-    judge(b"commit_as_proposed");
-    judge(b"stale_acc");
-    judge(b"stopped_sender");
-    judge(b"stop_midway");
-    judge(b"cut");
-    judge(b"eight_units");
-    judge(b"apart");
-    judge(b"settle_two");
-    judge(b"settle_66");
-    judge(b"settle_held");
-    judge(b"settle_order");
+fn runs(rt: &(impl Files + Print)) {
+    judge(rt, b"second_stop");
+    judge(rt, b"late_retry");
+    judge(rt, b"retry_not_least");
+    judge(rt, b"full_line");
+    judge(rt, b"record_waits");
+    judge(rt, b"commit_as_proposed");
+    judge(rt, b"stale_acc");
+    judge(rt, b"stopped_sender");
+    judge(rt, b"stop_midway");
+    judge(rt, b"cut");
+    judge(rt, b"eight_units");
+    judge(rt, b"apart");
+    judge(rt, b"settle_two");
+    judge(rt, b"settle_66");
+    judge(rt, b"settle_held");
+    judge(rt, b"settle_order");
 }
 
-fn main() {
-    worked_sheets();
-    examples();
-    refusals();
-    forms();
-    runs();
+fn main(rt: HostRuntime) {
+    worked_sheets(&rt);
+    examples(&rt);
+    refusals(&rt);
+    forms(&rt);
+    runs(&rt);
 }
