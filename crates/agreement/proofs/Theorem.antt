@@ -3,7 +3,7 @@ use Prim.Native.Nat.{ℕ, zero, suc, ◌≤◌, ◌<◌}
 use mathlib.Core.Path.{◌≡◌, refl, sym, ◌∙◌, ap, subst}
 use mathlib.Core.Bool.{true}
 use mathlib.Core.List.{List, [], ◌∷◌, map}
-use mathlib.Core.Logic.{◌⊎◌, inl, inr, ⊎_elim}
+use mathlib.Core.Logic.{inl, inr, ⊎_elim}
 use native.Mathlib.Omega.{arith}
 use native.Mathlib.Decide.{dec_le}
 use native.Mathlib.Nat.{lt_of_not-le}
@@ -150,7 +150,7 @@ pub demand_3 : (n : ℕ) (es : List Event) → Demand n es
 demand_3 n es =
     record {
       agreements = agreements (start n) (start_reached n) (start-empty n) es;
-      none_refused_lem = made_not_refused (accepted_in (start n) es) (opened_book (start n)) _;
+      all_made = made_not_refused (accepted_in (start n) es) (opened_book (start n)) _;
       book_is = book_is (start n) (start_reached n) (start-empty n) es;
       kept = λ first rest e p i written.
           subst (λ (l : List Event). entry_in (ran (start n) l) p i ≡ entry_in (ran (start n) first) p i) e

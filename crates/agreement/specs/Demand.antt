@@ -16,7 +16,7 @@ pub record Demand (n : ℕ) (es : List Event) : Type 0 where
   -- "after the list the written entries of all units are, position by position, exactly those that some agreements, made one at a
   -- time and none refused, leave in the book"
   pub agreements : List Agreement
-  pub none_refused_lem : none_refused (accepted_in (start n) es) (opened_book (start n)) agreements ≡ true
+  pub all_made : none_refused (accepted_in (start n) es) (opened_book (start n)) agreements ≡ true
   pub book_is : (p i : ℕ) → book_entry (fed_all (accepted_in (start n) es) (opened_book (start n)) agreements) p i ≡ entry_in (ran (start n) es) p i
   -- "An entry written after any first part of the list is the same after all of it."
   pub kept : (first rest : List Event) → first ++ rest ≡ es → (p i : ℕ) → is_written (entry_in (ran (start n) first) p i) ≡ true

@@ -1,6 +1,8 @@
 // What is done once an alternative of Figure 3 is chosen, on the image that the caller lends: a function for
 // each, but one for the two takes that send. The cut, and the room for what is sent, may still refuse it.
 // Internal to the engine: nothing is tested that the engine has tested before.
+#![tactic(auto)]
+
 ghost use Rattle.std.specs.Prelude.{◌≡◌};
 ghost use Rattle.view.specs.View.{with, minus, everyone};
 ghost use Rattle.channel.specs.declared.Message.{Message};

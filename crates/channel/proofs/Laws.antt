@@ -17,14 +17,14 @@ use Rattle.channel.specs.declared.Channel.{Channel}
 use Rattle.channel.specs.declared.Front.TheVariants.{Waiting}
 use Rattle.channel.specs.Channel.{slot, empty_channel, message, waiting, front_of, front, pushed, popped}
 
-first_members : (l : List Slot) (n : ℕ) (d : Slot) → 0 < n → 0 < length l → front_of (map message (take n l)) ≡ Waiting (message (get_or l 0 d))
-first_members [] n d h k = absurd (not-suc-le-zero k)
-first_members (s ∷ l) zero d h k = absurd (not-suc-le-zero h)
-first_members (s ∷ l) (suc n) d h k = refl
+first_waits : (l : List Slot) (n : ℕ) (d : Slot) → 0 < n → 0 < length l → front_of (map message (take n l)) ≡ Waiting (message (get_or l 0 d))
+first_waits [] n d h k = absurd (not-suc-le-zero k)
+first_waits (s ∷ l) zero d h k = absurd (not-suc-le-zero h)
+first_waits (s ∷ l) (suc n) d h k = refl
 
 pub front_waits : (c : Channel) (d : Slot) → length c.slots ≡ 8 → 0 < c.len → front c ≡ Waiting (message (get_or c.slots 0 d))
 unfolding waiting
-front_waits c d e h = first_members c.slots c.len d h (omega arith)
+front_waits c d e h = first_waits c.slots c.len d h (omega arith)
 
 map-append : (k l : List Slot) → map message (k ++ l) ≡ map message k ++ map message l
 map-append [] l = refl

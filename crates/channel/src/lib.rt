@@ -1,12 +1,14 @@
 // Messages, and channels of at most eight of them, first in, first out. Document 01 calls a channel a
 // line. What is done to channels is done where they are kept, in an image (crate image).
+#![tactic(auto)]
+
 ghost use Rattle.std.specs.Prelude.{◌≡◌};
 ghost use Rattle.channel.specs.Channel.{empty_channel};
 
 use view::GroupIndex;
 
 // Figure 3's four kinds of message. A view is one byte.
-#[derive(Drop)]
+#[derive(Clone, Copy)]
 pub enum Message {
     Propose(u8, GroupIndex),
     Retry(GroupIndex, GroupIndex),
@@ -14,19 +16,19 @@ pub enum Message {
     Commit(u8, GroupIndex),
 }
 
-#[derive(Drop)]
+#[derive(Clone, Copy)]
 pub struct Slot {
     pub message: Message,
 }
 
 // The first len slots hold the messages that wait, oldest first.
-#[derive(Drop)]
+#[derive(Clone, Copy)]
 pub struct Channel {
     pub slots: [Slot; 8],
     pub len: u8,
 }
 
-#[derive(Drop)]
+#[derive(Clone, Copy)]
 pub enum Front {
     Nothing,
     Waiting(Message),

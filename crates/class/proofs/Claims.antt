@@ -22,7 +22,7 @@ use Rattle.sheet.specs.Parse.{opened, parsed}
 use Rattle.run.specs.Output.{answered, line_done, tallied_then, tallied_from, tallied_by, lines_tally, sheet_tally}
 use Rattle.class.specs.Class.{share_text, counts_text, finding_text, name_line, finding_of, adds_of, all_line, each_line, in_all, class_output}
 use Rattle.print.specs.Examples.{printed_text, expected_text}
-use Rattle.class.specs.Examples.{k1_named, stop-named_lem, cut_named, unread_named, bad_first_named, empty-named_lem, long_named, class_printings}
+use Rattle.class.specs.Examples.{k1_named, named_stop, cut_named, unread_named, bad_first_named, named_empty, long_named, class_printings}
 
 pub class_as_expected : map printed_text class_printings ≡ map expected_text class_printings
 unfolding pick all_up_to each_up_to sum_up_to at put
@@ -45,6 +45,6 @@ unfolding pick all_up_to each_up_to sum_up_to at put
     opened parsed
     answered line_done tallied_then tallied_from tallied_by lines_tally sheet_tally
     share_text counts_text finding_text name_line finding_of adds_of all_line each_line in_all class_output
-    expected_text k1_named stop-named_lem cut_named unread_named bad_first_named empty-named_lem long_named
+    expected_text k1_named named_stop cut_named unread_named bad_first_named named_empty long_named
     flat_map
 class_as_expected = refl

@@ -21,8 +21,8 @@ k1_named = named (bytes "K1") true (bytes "u 2\nr 1 1\nt 1 1\na 1 1\nt 1 1\nt 1 
 
 -- A proposal to both; process 2 stops, which clears one message; process 1 takes its own and answers it, and proposes anew, one message of
 -- which vanishes. The answer and the new proposal wait. Of two proposals none is committed.
-unfoldable pub stop-named_lem : Named
-stop-named_lem = named (bytes "stopped") true (bytes "u 2\nr 1 12\ns 2\nt 1 1\na 1 1\nr 1 12")
+unfoldable pub named_stop : Named
+named_stop = named (bytes "stopped") true (bytes "u 2\nr 1 12\ns 2\nt 1 1\na 1 1\nr 1 12")
 
 -- process 1 stops while it proposes to three: two messages are sent, and the one to itself is cleared
 unfoldable pub cut_named : Named
@@ -35,8 +35,8 @@ unread_named = named (bytes "missing") false (bytes "u 2\nr 1 1\n")
 unfoldable pub bad_first_named : Named
 bad_first_named = named (bytes "bad") true (bytes "r 1 1\nu 2\nr 1 1\n")
 
-unfoldable pub empty-named_lem : Named
-empty-named_lem = named (bytes "empty") true []
+unfoldable pub named_empty : Named
+named_empty = named (bytes "empty") true []
 
 -- a name of 256 bytes: one more than is tried, or printed
 unfoldable pub long_named : Named
@@ -55,7 +55,7 @@ class_printings =
     ∷ share_line 6148914691236517205 18446744073709551615 prints " sent 0 taken 0 waiting 0 lost 0 share 1/3\n"
     ∷ class_output [] prints "all sent 0 taken 0 waiting 0 lost 0 share 0/1\n"
     ∷ class_output (k1_named ∷ []) prints "K1 sent 3 taken 3 waiting 0 lost 0 share 1/1\nall sent 3 taken 3 waiting 0 lost 0 share 1/1\n"
-    ∷ class_output (k1_named ∷ unread_named ∷ stop-named_lem ∷ bad_first_named ∷ empty-named_lem ∷ k1_named ∷ [])
+    ∷ class_output (k1_named ∷ unread_named ∷ named_stop ∷ bad_first_named ∷ named_empty ∷ k1_named ∷ [])
     prints "K1 sent 3 taken 3 waiting 0 lost 0 share 1/1\nmissing unopened\nstopped sent 5 taken 1 waiting 2 lost 2 share 0/1\nbad sent 0 taken 0 waiting 0 lost 0 share 0/1\nempty sent 0 taken 0 waiting 0 lost 0 share 0/1\nK1 sent 3 taken 3 waiting 0 lost 0 share 1/1\nall sent 11 taken 7 waiting 2 lost 2 share 1/2\n"
     ∷ class_output (cut_named ∷ []) prints "cut sent 2 taken 0 waiting 1 lost 1 share 0/1\nall sent 2 taken 0 waiting 1 lost 1 share 0/1\n"
     ∷ class_output (long_named ∷ [])

@@ -1,4 +1,6 @@
 // What is printed for the sheets of a class: a line for each name, and one for all of them together.
+#![tactic(auto)]
+
 ghost use Rattle.std.specs.Prelude.{◌≡◌, ◌++◌, length, take};
 ghost use Rattle.tallies.specs.Share.{share_of};
 ghost use Rattle.print.specs.Text.{decimal};
@@ -17,7 +19,7 @@ use tallies::{Tally, added};
 pub const NAME_LIMIT: usize = 255;
 
 // What came of a name: its sheet could not be opened or read, or is a long one, or was counted.
-#[derive(Drop)]
+#[derive(Clone, Copy)]
 pub enum Finding {
     Unopened,
     TooLong,
@@ -132,7 +134,7 @@ pub fn find(name: &[u8], opened: bool, sheet: &[u8]) -> Finding
 }
 
 // How long the line of a name is, and the class's tally after it.
-#[derive(Drop)]
+#[derive(Clone, Copy)]
 pub struct ClassLine {
     pub end: usize,
     pub total: Tally,

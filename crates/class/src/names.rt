@@ -8,7 +8,7 @@ use sheet::lines::next_place;
 
 // The place after what was taken from a chunk, how many of the name's bytes are kept, and whether
 // its line feed was met.
-#[derive(Drop)]
+#[derive(Clone, Copy)]
 pub struct Gathered {
     pub next: usize,
     pub len: usize,

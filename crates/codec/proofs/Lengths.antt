@@ -1,9 +1,9 @@
 -- The arrays of a system that is a program's value have the lengths that the program's types say.
 use mathlib.Core.Path.{◌≡◌}
-use mathlib.Core.List.{List, [], ◌∷◌, map}
-use base.Fml.{Fml}
+use mathlib.Core.List.{List, [], ◌∷◌}
 use denote.Array.{each}
 use denote.Laws.{Is}
+use denote.RattleType.{RattleType}
 use denote.Shadow.{shadow}
 use lib.ListN.{length}
 use mir.Val.{Val}
@@ -30,11 +30,11 @@ pub record Lengths (s : System) : Type 0 where
   pub each_channel : Each ChannelLengths s.channels
 
 -- ---- a program's value: what the checker knows of it is its relation to machine values
-each_value : {A D : Type 0} (own : D → List Val → Fml) (into : A → D) (P : A → Type 0)
-    → ((x : A) (vs : List Val) → shadow (own (into x) vs) → P x) → (l : List A) (us : List Val) → shadow (each D own (map into l) us) → Each P l
-each_value own into P h [] us p = tt
-each_value own into P h (x ∷ l) [] p = absurd p
-each_value own into P h (x ∷ l) (u ∷ us) p = (h x (u ∷ []) p.0, each_value own into P h l us p.1)
+each_value : (R : RattleType) (P : R.Denot → Type 0) → ((x : R.Denot) (vs : List Val) → Is R x vs → P x) → (l : List R.Denot) (us : List Val)
+    → shadow (each R.Denot R.own_val l us) → Each P l
+each_value R P h [] us p = tt
+each_value R P h (x ∷ l) [] p = absurd p
+each_value R P h (x ∷ l) (u ∷ us) p = (h x (u ∷ []) p.0, each_value R P h l us p.1)
 
 process_value : (x : Process) (vs : List Val) → Is process.the_row x vs → ProcessLengths x
 process_value x vs p = record { pending = search long; entries = search long }
@@ -42,13 +42,13 @@ process_value x vs p = record { pending = search long; entries = search long }
 channel_value : (c : Channel) (vs : List Val) → Is channel.the_row c vs → ChannelLengths c
 channel_value c vs p = record { slots = search long }
 
--- of a parameter s a proof has this relation at `c.good`, and of the result of a call at `.ok`
+-- of the first parameter s a proof has this relation at `c.well_formed.0`
 pub value_lengths : (s : System) (vs : List Val) → Is system.the_row s vs → Lengths s
 value_lengths s vs p =
     record {
       processes = search long;
       channels = search long;
       trust = search long;
-      each_process = each_value _ _ ProcessLengths process_value s.processes _ p.1.1.1.0.1.1;
-      each_channel = each_value _ _ ChannelLengths channel_value s.channels _ p.1.1.1.1.0.1.1;
+      each_process = each_value process.the_row ProcessLengths process_value s.processes p.1.1.1.0.0 p.1.1.1.0.1.1;
+      each_channel = each_value channel.the_row ChannelLengths channel_value s.channels p.1.1.1.1.0.0 p.1.1.1.1.0.1.1;
     }

@@ -1,4 +1,6 @@
 // A whole system, between a value of type System and the image in which it is kept.
+#![tactic(auto)]
+
 ghost use Rattle.std.specs.Prelude.{◌≡◌, true, [], ◌∷◌, ◌+◌, ◌≤◌, eqb, length, drop};
 ghost use Rattle.view.specs.Logic.{pick};
 ghost use Rattle.channel.specs.Channel.{empty_channel};

@@ -1,4 +1,6 @@
 // What a step counts: read off the image, and off the plan that is carried out.
+#![tactic(auto)]
+
 ghost use Rattle.std.specs.Prelude.{◌≤◌, ◌≡◌};
 ghost use Rattle.system.specs.System.{channel_at};
 ghost use Rattle.step.specs.Scope.{scope_of};
@@ -190,7 +192,7 @@ fn tally_if(refusal: u8, counts: Tally) -> Tally
 }
 
 // What a step answers: its number, and what it counts.
-#[derive(Drop)]
+#[derive(Clone, Copy)]
 pub struct Tallied {
     pub refusal: u8,
     pub tally: Tally,

@@ -1,4 +1,6 @@
 // What a step does to the image, part by part: messages go out, a process stops, others are doubted.
+#![tactic(auto)]
+
 ghost use Rattle.std.specs.Prelude.{◌≡◌, ◌||◌};
 ghost use Rattle.channel.specs.Channel.{has_room};
 ghost use Rattle.system.specs.System.{variables_at, channel_at, with_trust, trusting, sent_if_named, broadcasted, takes_if_named, room_for};

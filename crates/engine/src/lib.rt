@@ -1,4 +1,6 @@
 // The one place where a step is done: on the image that the caller lends.
+#![tactic(auto)]
+
 ghost use Rattle.std.specs.Prelude.{◌≡◌, ◌&&◌};
 ghost use Rattle.view.specs.Logic.{pick, is_one_of};
 ghost use Rattle.system.specs.System.{variables_at};

@@ -1,4 +1,6 @@
 // The image of a fresh system.
+#![tactic(auto)]
+
 ghost use Rattle.std.specs.Prelude.{◌≡◌, eqb, length};
 ghost use Rattle.view.specs.Logic.{pick};
 ghost use Rattle.system.specs.Fresh.{fresh_system};

@@ -211,9 +211,9 @@ module _ (b : List ℕ) (q p r : ℕ) (row : RowAt channels_place channel_width 
       ∙ ap (λ (y : Slot). y.message) (row_at slot_in message_width 8 r k j b place blank l)
       )
 
-  pub nobody_waits : r < image_width → (k j : ℕ) → j ≡ place_of 8 k → 8 ≤ j → blank.message ≡ (at (channel_at (system_in b) q p).slots k blank).message
+  pub no_message_lem : r < image_width → (k j : ℕ) → j ≡ place_of 8 k → 8 ≤ j → blank.message ≡ (at (channel_at (system_in b) q p).slots k blank).message
   unfolding channel_in
-  nobody_waits h k j place l =
+  no_message_lem h k j place l =
       sym (ap (λ y. (at y.slots k blank).message) (channel_read h) ∙ ap (λ (y : Slot). y.message) (no_row slot_in message_width 8 r k j b place blank l))
 
   pub no_channel_message : image_width ≤ r → (k : ℕ) → blank.message ≡ (at (channel_at (system_in b) q p).slots k blank).message

@@ -1,6 +1,8 @@
 // The image of a system: the bytes in which it is kept. Each function reads or replaces one part, and
 // promises what that is at the system that the bytes hold. All are total: where the bytes have another
 // length, or there is no part of that number, a blank is read and nothing is changed.
+#![tactic(auto)]
+
 ghost use Rattle.std.specs.Prelude.{◌≡◌, [], ◌∷◌, ◌+◌, ◌≤◌, length};
 ghost use Rattle.view.specs.Logic.{pick, at, put};
 ghost use Rattle.channel.specs.Channel.{empty_channel, blank, front, pushed, popped};
@@ -38,7 +40,7 @@ pub const TRUST: usize = CHANNELS + 64 * CHANNEL;
 pub const IMAGE: usize = TRUST + 8;
 
 // Three bytes: a tag and its two operands.
-#[derive(Drop)]
+#[derive(Clone, Copy)]
 pub struct Three(pub u8, pub u8, pub u8);
 
 fn three_at(image: &[u8], at: usize) -> Three

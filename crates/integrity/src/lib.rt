@@ -1,4 +1,6 @@
 // Is the system that an image holds sound? Tested where it stands, for every list of bytes.
+#![tactic(auto)]
+
 ghost use Rattle.std.specs.Prelude.{◌≡◌};
 ghost use Rattle.system.specs.System.{process_at, variables_at, channel_at};
 ghost use Rattle.sound.specs.Sound.{sound_channel, sound_history, sound_process, sound_at, sound_system};

@@ -1,4 +1,6 @@
 // A list of steps, in bytes, on one image.
+#![tactic(auto)]
+
 ghost use Rattle.std.specs.Prelude.{min, ◌≡◌};
 ghost use Rattle.sound.specs.Sound.{sound_system};
 ghost use Rattle.image.specs.Image.{system_in};

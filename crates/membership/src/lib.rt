@@ -1,4 +1,6 @@
 // The typed library: a step on a system by value. Each is the engine's, between encoding and decoding.
+#![tactic(auto)]
+
 ghost use Rattle.std.specs.Prelude.{◌≡◌, length};
 ghost use Rattle.plan.specs.declared.Action.{Action};
 ghost use Rattle.plan.specs.Cut.{whole};

@@ -1,5 +1,7 @@
 // All orders up to a depth: every run of a fresh system in which the link and the processes move in
 // turn. The link's turn calls the processes' turn, and that calls the link's.
+#![tactic(auto)]
+
 ghost use Rattle.std.specs.Prelude.{◌+◌, ◌≤◌, ◌<◌, ◌≡◌, true, [], ◌∷◌, length};
 ghost use Rattle.view.specs.Logic.{is_one_of};
 ghost use Rattle.view.specs.View.{everyone};
@@ -17,14 +19,14 @@ use system::refusal::{STRANGER, TOO_DEEP};
 use view::{GroupIndex, ProcessId, and, everyone, or};
 
 // How many runs there are, and how many of them end with an entry beyond index 1.
-#[derive(Drop)]
+#[derive(Clone, Copy)]
 pub struct RunCounts {
     pub runs: u32,
     pub entered: u32,
 }
 
 // What a walk answers: the two counts, or a refusal.
-#[derive(Drop)]
+#[derive(Clone, Copy)]
 pub struct Walked {
     pub refusal: u8,
     pub runs: u32,
@@ -144,7 +146,7 @@ fn try_move(image: &[u8], copied: &mut [u8], action: Action) -> bool
     requires { (sound_system (system_in image.now) ≡ true) × (length image.now ≡ length copied.old) }
     ensures { Tries action (system_in image.now) result copied.new }
 {
-    bytes::copy(image, copied);
+    copied.copy_from_slice(image);
     let refusal = attempt(
         copied,
         Step {

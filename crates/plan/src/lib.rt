@@ -1,5 +1,7 @@
 // Figure 3, guarded command by guarded command: which alternative the acting process takes; how a step is
 // cut, and refusals 12 and 7.
+#![tactic(auto)]
+
 ghost use Rattle.std.specs.Prelude.{ℕ, ◌+◌, ◌≡◌, true, eqb, ltb};
 ghost use Rattle.view.specs.Logic.{pick};
 ghost use Rattle.view.specs.View.{with};
@@ -17,7 +19,7 @@ use system::{Pending, Variables};
 use view::{GroupIndex, ProcessId, and, count, first_of, has, least, minus, subset, with, within};
 
 // What a process does in one step.
-#[derive(Drop)]
+#[derive(Clone, Copy)]
 pub enum Action {
     // The process is told its view.
     Report(ProcessId, u8),
@@ -30,7 +32,7 @@ pub enum Action {
 }
 
 // How much of a step is done.
-#[derive(Drop)]
+#[derive(Clone, Copy)]
 pub enum Cut {
     // All of it.
     Whole,
@@ -39,14 +41,14 @@ pub enum Cut {
 }
 
 // One step of any kind: what the process does, and whether it is cut.
-#[derive(Drop)]
+#[derive(Clone, Copy)]
 pub struct Step {
     pub action: Action,
     pub cut: Cut,
 }
 
 // Whom an action names.
-#[derive(Drop)]
+#[derive(Clone, Copy)]
 pub struct Scope {
     // The process that acts.
     pub actor: ProcessId,
@@ -58,7 +60,7 @@ pub struct Scope {
 
 // What becomes of the acting process: its variables; what it has recorded from the proposer, where
 // that is not 0; its history's entry at the index, where that is not 0.
-#[derive(Drop)]
+#[derive(Clone, Copy)]
 pub struct Change {
     pub variables: Variables,
     pub proposer: ProcessId,
@@ -70,7 +72,7 @@ pub struct Change {
 // What a step does once it is permitted: it is refused with this number; or, at 0, the acting
 // process changes so, sends the message to every process of the view, and then stops or not; it comes
 // to suspect some processes, or goes on to.
-#[derive(Drop)]
+#[derive(Clone, Copy)]
 pub struct Plan {
     pub refusal: u8,
     pub change: Change,
@@ -128,7 +130,7 @@ pub fn reproposing(x: Variables, i: GroupIndex) -> Variables
 
 // What becomes of a report: it is refused with this number; the process only takes the view over; or it
 // proposes the view at the index after PropOut, which is then below 32.
-#[derive(Drop)]
+#[derive(Clone, Copy)]
 pub enum ReportChoice {
     Refuse(u8),
     Adopt,
@@ -138,7 +140,7 @@ pub enum ReportChoice {
 // What becomes of a message that is taken: the step is refused with this number and it stays; the
 // proposal is recorded; nothing else changes; these have acknowledged; all have, and the Commit goes
 // out; the local view is proposed again at the index; the view is entered at the index.
-#[derive(Drop)]
+#[derive(Clone, Copy)]
 pub enum ReceiveChoice {
     Refuse(u8),
     Record(u8, GroupIndex),
@@ -151,7 +153,7 @@ pub enum ReceiveChoice {
 
 // What becomes of an answer: it is refused with this number; or Next becomes this and the message goes
 // to the proposer.
-#[derive(Drop)]
+#[derive(Clone, Copy)]
 pub enum RespondChoice {
     Refuse(u8),
     Reply(GroupIndex, Message),
@@ -275,7 +277,7 @@ pub fn respond_choice(x: Variables, pending: Pending) -> RespondChoice
 
 // To whom the message of a step goes: it is refused with this number; or, at 0, it goes to these, and
 // then the process stops or not.
-#[derive(Drop)]
+#[derive(Clone, Copy)]
 pub struct Reach {
     pub refusal: u8,
     pub addressees: u8,

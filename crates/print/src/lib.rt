@@ -1,5 +1,7 @@
 // What is printed: each function types a text from a place of a lent buffer on, and returns the
 // place after it. A byte for which there is no room is dropped.
+#![tactic(auto)]
+
 ghost use Rattle.std.specs.Prelude.{◌≡◌, min, ◌%◌, [], ◌∷◌};
 ghost use Rattle.view.specs.Logic.{pick};
 ghost use Rattle.system.specs.System.{process_at};

@@ -1,1 +1,2 @@
 // When it is quiet, it is agreed, proved of the definitions: specs/ has the claim and proofs/ the proof. There is no code.
+#![tactic(auto)]

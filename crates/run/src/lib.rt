@@ -1,4 +1,6 @@
 // A whole sheet: from its bytes to the output's bytes.
+#![tactic(auto)]
+
 ghost use Rattle.std.specs.Prelude.{◌≤◌, ◌≡◌, true, ◌++◌, length, drop};
 ghost use Rattle.view.specs.Logic.{pick, is_one_of};
 ghost use Rattle.tallies.specs.Tally.{no_tally, plus, capped};
@@ -28,7 +30,7 @@ use tallies::{Tally, sum};
 pub const SHEET_LIMIT: usize = 60_000;
 
 // Where what is printed ends, and what is counted: for a line, or for a whole sheet.
-#[derive(Drop)]
+#[derive(Clone, Copy)]
 pub struct SheetRun {
     pub end: usize,
     pub tally: Tally,

@@ -1,4 +1,6 @@
 // The input line of a walk, and what is printed for it.
+#![tactic(auto)]
+
 ghost use Rattle.std.specs.Prelude.{◌≤◌, ◌≡◌, ◌++◌, length, drop};
 ghost use Rattle.print.specs.Page.{page, typed};
 ghost use Rattle.sheet.specs.Grammar.{is_digit};

@@ -1,5 +1,7 @@
 // The settling run: takes and answers in rounds, on the image that the caller lends, until a whole
 // round does nothing.
+#![tactic(auto)]
+
 ghost use Rattle.std.specs.Prelude.{suc, ◌<◌, ◌≡◌, true, not, length};
 ghost use Rattle.view.specs.Logic.{pick};
 ghost use Rattle.sound.specs.Sound.{sound_system};
@@ -18,7 +20,7 @@ use tallies::{Tally, sum};
 use view::{ProcessId, and};
 
 // How a settling run ended.
-#[derive(Drop)]
+#[derive(Clone, Copy)]
 pub enum Ending {
     // No message waits, and no answer could be given.
     Rest,
@@ -28,7 +30,7 @@ pub enum Ending {
 }
 
 // What a settling run answers: its steps done, how it ended and what it counts, or a refusal.
-#[derive(Drop)]
+#[derive(Clone, Copy)]
 pub struct Settling {
     pub refusal: u8,
     pub steps: u16,
@@ -37,7 +39,7 @@ pub struct Settling {
 }
 
 // What a settling run returns: what it answers, and the system after it.
-#[derive(Drop)]
+#[derive(Clone, Copy)]
 pub struct Settled {
     pub refusal: u8,
     pub steps: u16,
@@ -46,7 +48,7 @@ pub struct Settled {
 }
 
 // The steps of a run so far, and what they count.
-#[derive(Drop)]
+#[derive(Clone, Copy)]
 pub struct StepsDone {
     pub steps: u16,
     pub tally: Tally,
@@ -56,7 +58,7 @@ pub struct StepsDone {
 pub const BUDGET: u16 = 7936;
 
 // The two halves of a round.
-#[derive(Drop)]
+#[derive(Clone, Copy)]
 pub enum Half {
     Takes,
     Answers,
@@ -219,7 +221,7 @@ fn nothing_to_do(image: &[u8], n: u8) -> bool
     ensures { result ≡ nothing_to_do (system_in image.now) }
 {
     let mut copied = image_buffer();
-    bytes::copy(image, &mut copied);
+    copied.copy_from_slice(image);
     let done = round(&mut copied, 1, nothing_done(), n);
     done.steps == 0
 }

@@ -7,9 +7,9 @@ use Rattle.print.specs.Text.{bytes}
 use Rattle.sheet.specs.Lines.{in_first, with_byte, lines_of}
 use Rattle.sheet.specs.Grammar.{piece, passed, ended, followed, readings, some, begins, greatest, column, first_reading, read}
 use Rattle.sheet.specs.Parse.{opened, parsed}
-use Rattle.sheet.specs.Examples.{splits, split_of, expected_lines, first_sayings, said_first, sayings, said, expected_saying}
+use Rattle.sheet.specs.Examples.{split_sheets, split_of, expected_lines, first_sayings, said_first, sayings, said, expected_saying}
 
-pub split_as_expected : map split_of splits ≡ map expected_lines splits
+pub split_as_expected : map split_of split_sheets ≡ map expected_lines split_sheets
 unfolding pick bytes in_first with_byte lines_of split_of expected_lines
 split_as_expected = refl
 

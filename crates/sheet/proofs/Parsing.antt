@@ -148,7 +148,7 @@ module _ {A : Type 0} (bad : ℕ → A) (x : Form A) (xs : List (Form A)) where
   pub text_fits : (t fs : List ℕ) (k : ℕ) (m : List ℕ) → all_plain t ≡ true → fitting t m ≡ length t
       → read_from bad (map (before t fs) (x ∷ xs)) k m ≡ read_from bad (map (before [] (fs ++ values t 0 m)) (x ∷ xs)) (k + length t) (drop (length t) m)
   unfolding fitting pick values all_plain
-  text_fits [] fs k m p h = rw (append_none fs, add-zero k)
+  text_fits [] fs k m p h = rw (add-zero k) (ap (λ (ys : List ℕ). read_from bad (map (before [] ys) (x ∷ xs)) k m) (sym (append_none fs)))
   text_fits (f ∷ t) fs k [] p h = absurd (omega arith)
   text_fits (f ∷ t) fs k (b ∷ bs) p h = by (stands f b) refl h (text_fits t (grown f b fs) (suc k) bs (and_right (plain f) (all_plain t) p))
     where
@@ -162,7 +162,7 @@ module _ {A : Type 0} (bad : ℕ → A) (x : Form A) (xs : List (Form A)) where
           let n : k + suc (length t) ≡ suc k + length t = omega arith in
           text_on f t fs k b bs (and_left (plain f) (all_plain t) p) s
           ∙ rest (omega arith)
-          ∙ rw (fields_on f t fs b bs, n)
+          ∙ rw n (ap (λ (ys : List ℕ). read_from bad (map (before [] ys) (x ∷ xs)) (suc k + length t) (drop (length t) bs)) (sym (fields_on f t fs b bs)))
       by false s h rest = absurd (omega arith)
 
   pub text_fails : (t fs : List ℕ) (k : ℕ) (m : List ℕ) → all_plain t ≡ true → fitting t m < length t

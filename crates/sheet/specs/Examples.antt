@@ -21,8 +21,8 @@ infix 80 ◌splits◌
 abbrev ◌splits◌ : String → List String → Split
 s splits ls = record { sheet = s; lines = ls }
 
-abbrev pub splits : List Split
-splits =
+abbrev pub split_sheets : List Split
+split_sheets =
     "" splits []
     ∷ "a" splits ("a" ∷ [])
     ∷ "a\n" splits ("a" ∷ [])

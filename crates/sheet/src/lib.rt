@@ -1,4 +1,6 @@
 // The trainee's sheet: its lines, and what each says.
+#![tactic(auto)]
+
 pub mod lines;
 pub mod parse;
 pub mod reader;

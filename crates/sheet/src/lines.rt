@@ -4,7 +4,7 @@ ghost use Rattle.sheet.specs.Lines.{line_length, next_place, line_between};
 
 // What stands at a place of a sheet: a line, from start up to end, with the next line's place; or
 // nothing.
-#[derive(Drop)]
+#[derive(Clone, Copy)]
 pub enum Found {
     End,
     Span {

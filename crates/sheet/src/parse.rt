@@ -6,7 +6,7 @@ use plan::{Action, Cut, Step};
 use view::{ProcessId, and, with};
 
 // The first line: `u N`, or bad, from this column on.
-#[derive(Drop)]
+#[derive(Clone, Copy)]
 pub enum Opening {
     Bad(usize),
     // The fresh system of so many processes.
@@ -15,7 +15,7 @@ pub enum Opening {
 
 // Any other line: `r P VIEW`, `t Q P` and `a P Q`, each alone or with ` cut K`, `s P` and `q`; or bad,
 // from this column on.
-#[derive(Drop)]
+#[derive(Clone, Copy)]
 pub enum Line {
     Bad(usize),
     Step(Step),
@@ -84,7 +84,7 @@ fn digit_at(l: &[u8], i: usize) -> u8
 }
 
 // A view, and the place where it ends.
-#[derive(Drop)]
+#[derive(Clone, Copy)]
 struct Field {
     end: usize,
     view: u8,

@@ -6,7 +6,7 @@ ghost use Rattle.sheet.specs.Lines.{next_place, line_at};
 
 use crate::lines::{Found, line_between, next_place};
 
-#[derive(Drop)]
+#[derive(Clone, Copy)]
 pub struct SheetReader<'a> {
     pub sheet: &'a [u8],
     pub at: usize,

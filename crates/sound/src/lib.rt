@@ -1,5 +1,7 @@
 // Are the parts of a system sound? Decided for every value whatever. The test of a whole system stands in
 // crate integrity, where the system is kept.
+#![tactic(auto)]
+
 ghost use Rattle.std.specs.Prelude.{◌≡◌};
 ghost use Rattle.sound.specs.Sound.{in_range, sound_proposal, sound_message, sound_pending, sound_variables};
 

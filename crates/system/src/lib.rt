@@ -1,4 +1,6 @@
 // The system: up to eight processes and the channels between them. Document 01 calls it a table.
+#![tactic(auto)]
+
 ghost use Rattle.std.specs.Prelude.{◌≡◌};
 ghost use Rattle.system.specs.Fresh.{fresh_process, fresh_system, fresh_of};
 
@@ -9,26 +11,26 @@ use channel::Channel;
 use view::{GroupIndex, and, everyone};
 
 // A recorded proposal, or none.
-#[derive(Drop)]
+#[derive(Clone, Copy)]
 pub enum Pending {
     Nothing,
     Proposal(u8, GroupIndex),
 }
 
-#[derive(Drop)]
+#[derive(Clone, Copy)]
 pub struct PendingSlot {
     pub pending: Pending,
 }
 
 // The views committed at group indices 1 to 32; the empty view where there is none.
-#[derive(Drop)]
+#[derive(Clone, Copy)]
 pub struct History {
     pub entries: [u8; 32],
 }
 
 // The single variables of one process: whether it has stopped, and Figure 3's v_p, Next, PropOut, v*
 // and ack.
-#[derive(Drop)]
+#[derive(Clone, Copy)]
 pub struct Variables {
     pub crashed: bool,
     pub view: u8,
@@ -40,7 +42,7 @@ pub struct Variables {
 
 // A process: its variables, for each process the proposal recorded from it (Figure 3's Prop, v and
 // PropIn), and its history.
-#[derive(Drop)]
+#[derive(Clone, Copy)]
 pub struct Process {
     pub variables: Variables,
     pub pending: [PendingSlot; 8],
@@ -49,7 +51,7 @@ pub struct Process {
 
 // The channel from process q to process p is the one at 8 * (q - 1) + p - 1. Any caller may hand over
 // anything: every field is public, and every function takes every value.
-#[derive(Drop)]
+#[derive(Clone, Copy)]
 pub struct System {
     pub n: u8,
     pub processes: [Process; 8],
@@ -59,7 +61,7 @@ pub struct System {
 }
 
 // The number 0 and the next system, or a refusal number and the same system.
-#[derive(Drop)]
+#[derive(Clone, Copy)]
 pub struct Outcome {
     pub refusal: u8,
     pub system: System,

@@ -1,7 +1,7 @@
 -- Euclid's rule gives a common divisor that every other one divides; so the share is in lowest terms.
 use Prim.Native.Nat.{ℕ, zero, suc, ◌*◌, ◌/◌, ◌%◌, ◌∣◌, ◌≤◌, ◌<◌}
 use mathlib.Core.Path.{◌≡◌, refl, sym, ◌∙◌, ap, subst}
-use native.Mathlib.Nat.{mod-lt, dvd_refl, dvd-zero, dvd-mod_iff, pos_of_dvd_of_pos, mul-div_cancel', mul-dvd-mul_left, dvd_of_mul-dvd-mul_left, eq_one_of_dvd_one, mul-one, mul_assoc, mul_comm}
+use native.Mathlib.Nat.{mod-lt, dvd_refl, dvd-zero, dvd-mod_iff, pos_of_dvd_of_pos, mul-div_cancel', mul-dvd-mul_left, dvd_of_mul-dvd-mul_left, eq-one_of_dvd-one, mul-one, mul_assoc, mul_comm}
 use native.Mathlib.Omega.{arith}
 use Rattle.tallies.specs.Share.{euclid, gcd, in_lowest_terms, LowestTerms}
 
@@ -69,11 +69,11 @@ module _ (g c p : ℕ) (pos : 0 < g) (by-c : g ∣ c) (by-p : g ∣ p) where
   coprime greatest d x y =
       let of_c : g * d ∣ c = subst (λ (z : ℕ). g * d ∣ z) (mul-div_cancel' g by-c) (mul-dvd-mul_left d g x) in
       let of-p : g * d ∣ p = subst (λ (z : ℕ). g * d ∣ z) (mul-div_cancel' g by-p) (mul-dvd-mul_left d g y) in
-      eq_one_of_dvd_one (dvd_of_mul-dvd-mul_left {k = g} d {n = 1} pos (subst (λ (z : ℕ). g * d ∣ z) (sym (mul-one g)) (greatest (g * d) of_c of-p)))
+      eq-one_of_dvd-one (dvd_of_mul-dvd-mul_left {k = g} d {n = 1} pos (subst (λ (z : ℕ). g * d ∣ z) (sym (mul-one g)) (greatest (g * d) of_c of-p)))
 
 pub lowest : (c p : ℕ) → LowestTerms c p (in_lowest_terms c p)
 unfolding in_lowest_terms
-lowest c zero = record { same = λ h. absurd (omega arith); lowest = λ d x y. eq_one_of_dvd_one y; none = λ h. refl }
+lowest c zero = record { same = λ h. absurd (omega arith); lowest = λ d x y. eq-one_of_dvd-one y; none = λ h. refl }
 lowest c (suc p) =
     let pos : 0 < gcd c (suc p) = gcd_positive c (suc p) (omega arith) in
     record {

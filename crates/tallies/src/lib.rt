@@ -1,5 +1,7 @@
 // The tally: what has become of the messages, and of the proposals. One small record serves a step, a
 // settling run, a sheet and a class.
+#![tactic(auto)]
+
 ghost use Rattle.std.specs.Prelude.{◌+◌, ◌≡◌};
 ghost use Rattle.tallies.specs.Tally.{no_tally, plus, capped_count, capped};
 
@@ -7,7 +9,7 @@ pub mod share;
 
 // Document 02, S-7: "messages sent, taken, waiting, and lost to a stop"; and proposals, with those of
 // them for which a Commit was sent.
-#[derive(Drop)]
+#[derive(Clone, Copy)]
 pub struct Tally {
     pub sent: u64,
     pub taken: u64,

@@ -5,7 +5,7 @@ ghost use Rattle.tallies.specs.Share.{gcd, share_of};
 use crate::Tally;
 
 // So many out of so many.
-#[derive(Drop)]
+#[derive(Clone, Copy)]
 pub struct Share {
     pub committed: u64,
     pub proposals: u64,

@@ -1,15 +1,17 @@
 // Views: sets of up to eight processes, kept as one byte. Document 01 calls a process a unit.
+#![tactic(auto)]
+
 ghost use Rattle.std.specs.Prelude.{◌≡◌, ◌&&◌, ◌||◌};
 ghost use Rattle.view.specs.Logic.{is_one_of, place_of};
 ghost use Rattle.view.specs.View.{has, within, subset, with, minus, switched, everyone, least_of, count_of, joined, first_members};
 
 // Document 01: "A unit's number and a position in the history each keep a kind of their own".
 // The number of a process, counted from 1.
-#[derive(Drop)]
+#[derive(Clone, Copy)]
 pub struct ProcessId(pub u8);
 
 // A position in the history (the paper's group index), counted from 1.
-#[derive(Drop)]
+#[derive(Clone, Copy)]
 pub struct GroupIndex(pub u8);
 
 // Both, and either: functions, so that a test that joins two others has no branch.

@@ -1,0 +1,14 @@
+-- `codec::put_three`: byte after byte.
+use native.Mathlib.Omega.{arith}
+use lib.ListN.{length-set}
+use Rattle.codec.proofs.Laws.{three-put}
+use Rattle.codec.proofs.put_three.Goals as goal
+
+pub returns : goal.returns
+returns c = three-put _ c.args.at _ _ _ c.requires
+
+pub bounds-image-at-2 : goal.bounds-image-at-2
+bounds-image-at-2 c = simp length-set (omega arith)
+
+pub bounds-image-at-3 : goal.bounds-image-at-3
+bounds-image-at-3 c = simp length-set (omega arith)
