@@ -1,5 +1,8 @@
-// The library for programs in C and other languages: the engine's functions, with plain numbers. A
-// process's number is wrapped at once; everything below takes it as a `ProcessId`.
+// The functions for programs in C and other languages: the engine's, with plain numbers. A
+// process's number is wrapped at once; everything below takes it as a `ProcessId`. Crate capi_c
+// exports each of them.
+#![tactic(auto)]
+
 ghost use Rattle.std.specs.Prelude.{◌≡◌};
 ghost use Rattle.plan.specs.declared.Action.{Action};
 ghost use Rattle.plan.specs.Cut.{whole, cut_after};
@@ -21,8 +24,7 @@ use system::refusal::{STRANGER, UNSOUND};
 use view::{ProcessId, is_one_of};
 
 // The image of the fresh system of n processes.
-#[unsafe(no_mangle)]
-pub extern "C" fn lobstercreel_fresh(image: &mut [u8], n: u8) -> u8
+pub fn lobstercreel_fresh(image: &mut [u8], n: u8) -> u8
     ensures { Freshens n image.old result image.new }
 {
     if image.len() == IMAGE {
@@ -65,56 +67,49 @@ fn perform_cut(image: &mut [u8], o: Action, k: u8) -> u8
 }
 
 // Process p is told its view.
-#[unsafe(no_mangle)]
-pub extern "C" fn lobstercreel_report(image: &mut [u8], p: u8, view: u8) -> u8
+pub fn lobstercreel_report(image: &mut [u8], p: u8, view: u8) -> u8
     ensures { Gives (stepped (system_in image.old) (whole (Action.Report (record { 0 = p }) view))) image.old result image.new }
 {
     perform_whole(image, Action::Report(ProcessId(p), view))
 }
 
 // Process p takes the oldest message from process q.
-#[unsafe(no_mangle)]
-pub extern "C" fn lobstercreel_receive(image: &mut [u8], q: u8, p: u8) -> u8
+pub fn lobstercreel_receive(image: &mut [u8], q: u8, p: u8) -> u8
     ensures { Gives (stepped (system_in image.old) (whole (Action.Receive (record { 0 = q }) (record { 0 = p })))) image.old result image.new }
 {
     perform_whole(image, Action::Receive(ProcessId(q), ProcessId(p)))
 }
 
 // Process p answers the proposal that it recorded from process q.
-#[unsafe(no_mangle)]
-pub extern "C" fn lobstercreel_respond(image: &mut [u8], p: u8, q: u8) -> u8
+pub fn lobstercreel_respond(image: &mut [u8], p: u8, q: u8) -> u8
     ensures { Gives (stepped (system_in image.old) (whole (Action.Respond (record { 0 = p }) (record { 0 = q })))) image.old result image.new }
 {
     perform_whole(image, Action::Respond(ProcessId(p), ProcessId(q)))
 }
 
 // Process p stops for good.
-#[unsafe(no_mangle)]
-pub extern "C" fn lobstercreel_crash(image: &mut [u8], p: u8) -> u8
+pub fn lobstercreel_crash(image: &mut [u8], p: u8) -> u8
     ensures { Gives (stepped (system_in image.old) (whole (Action.Crash (record { 0 = p })))) image.old result image.new }
 {
     perform_whole(image, Action::Crash(ProcessId(p)))
 }
 
 // Process p is told its view, and stops after k of its messages.
-#[unsafe(no_mangle)]
-pub extern "C" fn lobstercreel_report_cut(image: &mut [u8], p: u8, view: u8, k: u8) -> u8
+pub fn lobstercreel_report_cut(image: &mut [u8], p: u8, view: u8, k: u8) -> u8
     ensures { Gives (stepped (system_in image.old) (cut_after (Action.Report (record { 0 = p }) view) k)) image.old result image.new }
 {
     perform_cut(image, Action::Report(ProcessId(p), view), k)
 }
 
 // Process p takes the oldest message from process q, and stops after k of its messages.
-#[unsafe(no_mangle)]
-pub extern "C" fn lobstercreel_receive_cut(image: &mut [u8], q: u8, p: u8, k: u8) -> u8
+pub fn lobstercreel_receive_cut(image: &mut [u8], q: u8, p: u8, k: u8) -> u8
     ensures { Gives (stepped (system_in image.old) (cut_after (Action.Receive (record { 0 = q }) (record { 0 = p })) k)) image.old result image.new }
 {
     perform_cut(image, Action::Receive(ProcessId(q), ProcessId(p)), k)
 }
 
 // Process p answers the proposal that it recorded from process q, and stops after k of its messages.
-#[unsafe(no_mangle)]
-pub extern "C" fn lobstercreel_respond_cut(image: &mut [u8], p: u8, q: u8, k: u8) -> u8
+pub fn lobstercreel_respond_cut(image: &mut [u8], p: u8, q: u8, k: u8) -> u8
     ensures { Gives (stepped (system_in image.old) (cut_after (Action.Respond (record { 0 = p }) (record { 0 = q })) k)) image.old result image.new }
 {
     perform_cut(image, Action::Respond(ProcessId(p), ProcessId(q)), k)
@@ -132,8 +127,7 @@ fn ending_number(e: Ending) -> u16
 }
 
 // A list of steps, four bytes each, and their numbers.
-#[unsafe(no_mangle)]
-pub extern "C" fn lobstercreel_steps(image: &mut [u8], list: &[u8], numbers: &mut [u8]) -> usize
+pub fn lobstercreel_steps(image: &mut [u8], list: &[u8], numbers: &mut [u8]) -> usize
     ensures { Performs list.now image.old numbers.old result image.new numbers.new }
 {
     perform_all(image, list, numbers)
@@ -141,8 +135,7 @@ pub extern "C" fn lobstercreel_steps(image: &mut [u8], list: &[u8], numbers: &mu
 
 // The settling run: takes and answers, until a whole round does nothing. The steps done and how it
 // ended go into the lent pair.
-#[unsafe(no_mangle)]
-pub extern "C" fn lobstercreel_settle(image: &mut [u8], told: &mut [u16; 2]) -> u8
+pub fn lobstercreel_settle(image: &mut [u8], told: &mut [u16; 2]) -> u8
     ensures { Tells (settled 7936 (system_in image.old)) image.old result image.new told.old told.new }
 {
     let run = settle::settle(image);
@@ -154,8 +147,7 @@ pub extern "C" fn lobstercreel_settle(image: &mut [u8], told: &mut [u16; 2]) -> 
 
 // A whole sheet, from its bytes to what is printed, as far as the buffer has room. The answer is how
 // many bytes were written: where it is less than the buffer's length, nothing was cut off.
-#[unsafe(no_mangle)]
-pub extern "C" fn lobstercreel_run(sheet: &[u8], out: &mut [u8]) -> usize
+pub fn lobstercreel_run(sheet: &[u8], out: &mut [u8]) -> usize
     ensures { Prints (output sheet.now) out.old result out.new }
 {
     run::run_sheet(sheet, out)
