@@ -1,7 +1,7 @@
 /* One agreement of two units, carried through by the library's functions: unit 1 reports that both stand together, both accept, and
  * both histories hold the view at position 2. agreement.txt is what is printed.
  *
- *   rt staticlib capi
+ *   bash tools/build library
  *   cc -I include examples/agreement.c target/staticlib/libcapi.a -o target/agreement && ./target/agreement
  */
 #include <stdio.h>

@@ -9,7 +9,7 @@
  * STACK (measured on x86-64 by tests/stack): a step, a list of steps and lobstercreel_fresh take less than 400 bytes, lobstercreel_settle
  * less than 4 KB, lobstercreel_run less than 6 KB.
  *
- * Build the library with `rt staticlib capi` and link target/staticlib/libcapi.a (x86-64 only). docs/IMAGE.md has the layout as a
+ * Build the library with `bash tools/build library` and link target/staticlib/libcapi.a (x86-64 only). docs/IMAGE.md has the layout as a
  * table, and where each sentence here is proved.
  *
  * A pointer must not be null, must point to as many bytes as the length after it says (`told`, which has none after it, to two numbers

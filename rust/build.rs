@@ -1,4 +1,4 @@
-//! Links target/staticlib/libcapi.a, which `rt staticlib capi` builds at the repository's root.
+//! Links target/staticlib/libcapi.a, which `bash tools/build library` makes at the repository's root.
 
 use std::path::Path;
 
@@ -8,7 +8,7 @@ fn main() {
     let archive = library.join("libcapi.a");
     assert!(
         archive.exists(),
-        "libcapi.a is missing: run `rt staticlib capi` at the repository's root"
+        "libcapi.a is missing: run `bash tools/build library` at the repository's root"
     );
     println!("cargo:rerun-if-changed={}", archive.display());
     println!("cargo:rustc-link-search=native={}", library.display());

@@ -1,7 +1,7 @@
 /* The library as C calls it: every place and every name of the header, for every unit, record, position, line and slot; every byte of
  * a full table damaged in turn; and random runs of calls against the sheet runner.
  *
- *   rt staticlib capi
+ *   bash tools/build library
  *   cc -I include tests/image.c target/staticlib/libcapi.a -o target/image && ./target/image
  *
  * The equations are proved; this tests what no proof sees: that C passes what the library takes, and that the header says what the

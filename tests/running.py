@@ -80,8 +80,8 @@ def run(
     **given,
 ):
     """Runs a program and gives what it wrote to both outputs. Its input is pieces through a pipe, or a file descriptor. An output may
-    be a file descriptor too, and is then not read. All these descriptors are closed here. Without `sigpipe` the program is not ended
-    by a broken pipe. It has to take all of its input, but for `all_taken` of None. What else is given goes to the process."""
+    be a file descriptor too, and is then not read. All these descriptors are closed here. Without `sigpipe` the system does not end
+    it at a broken pipe. It has to take all of its input, but for `all_taken` of None. What else is given goes to the process."""
     process = subprocess.Popen(
         [os.path.abspath(os.path.join(FOLDER, program)), *args],
         stdin=subprocess.PIPE if stdin is None else stdin,

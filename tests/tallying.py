@@ -7,7 +7,6 @@ import os
 import socket
 import resource
 import shutil
-import signal
 import stat
 import tempfile
 import threading
@@ -61,13 +60,18 @@ SHEETS = {
     b"two words": (K1, K1_COUNTS),
     b" ": (K1, K1_COUNTS),
     b"all": (K1, K1_COUNTS),
-    b"\xff\xfe\x01": (K1, K1_COUNTS),
+    "\u00e4\u20ac\u0001".encode(): (K1, K1_COUNTS),
     b"%s\\n\t\r": (K1, K1_COUNTS),
     b"x" * 255: (K1, K1_COUNTS),
 }
 LONG = {
     b"long.sheet": SHEETS[b"limit.sheet"][0] + b"\n",
     b"very_long.sheet": K1 + b"x" * 1_000_000,
+}
+# Sheets that are there, by names that are no text in UTF-8: they are not opened (docs/DECISIONS.md, 86).
+NO_TEXT = {
+    b"\xff\xfe\x01": K1,
+    b"K1\x80.sheet": K1,
 }
 
 
@@ -105,7 +109,7 @@ def class_folder():
         for name, (sheet, _) in SHEETS.items():
             with open(os.path.join(folder, name), "wb") as file:
                 file.write(sheet)
-        for name, sheet in LONG.items():
+        for name, sheet in {**LONG, **NO_TEXT}.items():
             with open(os.path.join(folder, name), "wb") as file:
                 file.write(sheet)
         os.mkdir(os.path.join(folder, b"folder"))
@@ -131,9 +135,9 @@ def tally_in(folder):
     def check_names(case, names, last=b"\n", **given):
         check(case, "tally", tallied(names), pieces=[b"\n".join(names) + last], cwd=folder, **given)
 
-    for name in [*SHEETS, *LONG]:
+    for name in [*SHEETS, *LONG, *NO_TEXT]:
         check_names(f"{name!r} alone", [name])
-    check_names("all of them", [*SHEETS, *LONG])
+    check_names("all of them", [*SHEETS, *LONG, *NO_TEXT])
     check_names("all of them, backwards", [*reversed(SHEETS), *reversed(LONG)])
     check_names("without the last line feed", [b"K1.sheet", b"cut.sheet"], last=b"")
     check_names("the same sheet twice", [b"thirds.sheet", b"thirds.sheet"])
@@ -218,7 +222,7 @@ def tally_in(folder):
     check("a full device and no names", "tally", None, TALLY_UNWRITTEN, stdout=full, cwd=folder)
     check("an output that cannot be written", "tally", None, TALLY_UNWRITTEN, stdout=os.open(os.devnull, os.O_RDONLY), **given)
     check("a closed pipe as output", "tally", None, TALLY_UNWRITTEN, stdout=closed_pipe(), sigpipe=False, **given)
-    check("the same, ended by the system", "tally", None, b"", stdout=closed_pipe(), status=-signal.SIGPIPE, **given)
+    check("the same, where the system may end it", "tally", None, TALLY_UNWRITTEN, stdout=closed_pipe(), **given)
 
 
 def crumbs(data):

@@ -1,7 +1,7 @@
 #!/usr/bin/env python3
 """Brings the repository's own names in antt to today's spelling: definitions, lemmas, fields and variables in snake case.
 
-usage: python3 tools/respell.py [FOLDER]     once, right after /opt/rattle/port/port.py, at the top of the repository
+usage: python3 tools/respell.py [FOLDER]     once, right after the kit's port.py, at the top of the repository
 
 - A word in camel case becomes snake case: `isOneOf` -> `is_one_of`. Types, records, facts and modules keep their capitals.
 - A dash in a name of several words becomes `_`: `or-idle` -> `or_idle`. It stays between the names of two functions, as in `length-put`.

@@ -1,4 +1,4 @@
-//! One agreement of two units: `cargo run --example agreement` in rust/, after `rt staticlib capi`.
+//! One agreement of two units: `cargo run --example agreement` in rust/, after `bash tools/build library`.
 
 use lobstercreel::{Action, Refusal, System};
 

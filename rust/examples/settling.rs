@@ -1,5 +1,5 @@
 //! One agreement of three units, in two calls: `cargo run --example settling` in rust/, after
-//! `rt staticlib capi`.
+//! `bash tools/build library`.
 
 use lobstercreel::{Action, Ending, Refusal, System};
 
