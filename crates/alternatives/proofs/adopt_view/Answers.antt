@@ -8,7 +8,7 @@ use Rattle.alternatives.proofs.adopt_view.Goals as goal
 
 pub returns-then-refusal-eq0 : goal.returns-then-refusal-eq0
 returns-then-refusal-eq0 c =
-    let view = c.before.args.view in
+    let view = c.args.view in
     adopt_done _ _ _ _ c.doubt_others.ensures _ _ _ (sym c.quiet_refusal-refusal.ensures ∙ c.if-refusal-eq0.true)
     (c.with_view.ensures ∙ ap (λ (x : Variables). with_view x view) c.variables_at.ensures)
     c.put_variables.ensures.system

@@ -8,5 +8,5 @@ use Rattle.alternatives.proofs.doubt_others.Goals as goal
 
 pub returns : goal.returns
 returns c =
-    let a = c.before.args in
+    let a = c.args in
     c.doubt.ensures ∙ ap (doubted (system_in a.image.now) a.p.0) (c.minus.ensures ∙ ap (λ (s : ℕ). minus s a.view) (c.everyone.ensures ∙ ap everyone c.size.ensures))

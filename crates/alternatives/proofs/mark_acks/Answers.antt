@@ -8,7 +8,7 @@ use Rattle.alternatives.proofs.mark_acks.Goals as goal
 
 pub returns-then-refusal-eq0 : goal.returns-then-refusal-eq0
 returns-then-refusal-eq0 c =
-    let acks = c.before.args.acks in
+    let acks = c.args.acks in
     mark_done _ _ _ _ c.pop.ensures.system _ _ acks _ (sym c.quiet_refusal-refusal.ensures ∙ c.if-refusal-eq0.true)
     (c.with_acks.ensures ∙ ap (λ (x : Variables). with_acks x acks) c.variables_at.ensures)
     c.put_variables.ensures.system

@@ -9,8 +9,8 @@ use Rattle.alternatives.proofs.propose_view.Goals as goal
 
 pub returns-then-refusal-eq0 : goal.returns-then-refusal-eq0
 returns-then-refusal-eq0 c =
-    let view = c.before.before.args.view in
-    let i = c.before.before.args.i in
+    let view = c.args.view in
+    let i = c.args.i in
     propose_done _ _ _ _ c.doubt_others.ensures _ _ i _ _ c.reach_of-t.ensures
     _ c.room.ensures _ c.refusal_of-refusal.ensures c.if-refusal-eq0.true
     (c.proposing.ensures ∙ ap (λ (x : Variables). proposing x view i.0) c.variables_at.ensures)

@@ -11,7 +11,7 @@ returns-then-has c =
       c.trust.ensures,
       c.has-then-has.ensures,
       c.variables_at-y.ensures,
-      ← c.before.requires,
+      ← c.requires,
       ← c.has.ensures,
       c.if-has.true,
     )

@@ -20,9 +20,9 @@ pub loop-rest-preserved : goal.loop-rest-preserved
 loop-rest-preserved c =
     let l = c.loop-rest.invariant in
     let turn = c.suspect_if_named in
-    (turns_left _ _ c.before.ranges.suspects.fits l.0 (λ none. c.loop-rest-test.true (l.1 ∙ none)), halved_more _ _ _ l.1, turn.auto.image ∙ l.2, l.3, doubt_more _ _ _ _ _ _ l.4 turn.ensures)
+    (turns_left _ _ c.ranges.suspects.fits l.0 (λ none. c.loop-rest-test.true (l.1 ∙ none)), halved_more _ _ _ l.1, turn.auto.image ∙ l.2, l.3, doubt_more _ _ _ _ _ _ l.4 turn.ensures)
 
 pub returns : goal.returns
 returns c =
     let l = c.loop-rest.invariant in
-    l.4 ∙ all_doubted _ _ _ _ c.before.ranges.suspects.fits l.0 (sym l.1 ∙ c.loop-rest-test.false)
+    l.4 ∙ all_doubted _ _ _ _ c.ranges.suspects.fits l.0 (sym l.1 ∙ c.loop-rest-test.false)
