@@ -18,11 +18,20 @@ use Rattle.print.proofs.Laws.{in_turn}
 use Rattle.sheet.specs.declared.parse.Opening.{Opening}
 use Rattle.sheet.specs.declared.parse.Opening.TheVariants.{Bad as BadFirst, Fresh}
 use Rattle.sheet.specs.declared.parse.Line.{Line}
-use Rattle.sheet.specs.Lines.{lines_of}
+use Rattle.sheet.specs.declared.lines.Found.{Found}
+use Rattle.sheet.specs.declared.lines.Found.TheVariants.{Span, End}
+use Rattle.sheet.specs.Lines.{lines_of, line_at}
 use Rattle.sheet.specs.Parse.{meaning_first, opened, parsed}
-use Rattle.sheet.proofs.Laws.{Cut}
+use Rattle.sheet.proofs.Laws.{Cut, line_found, end_found}
 use Rattle.sheet.proofs.GoodLines.{fresh_size}
 use Rattle.run.specs.Output.{bad_line, line_done, printed_then, printed_from, bad_from, started_by, lines_output, output, tallied_then, tallied_from, tallied_by, lines_tally, sheet_tally}
+
+-- what was found at a place is a line of the sheet, or none is left there
+pub line_there : {s : List ℕ} {at start end next : ℕ} {found : Found} → found ≡ line_at s at → found ≡ Span start end next → Cut s at start end next
+line_there found is = line_found _ _ _ _ _ (sym found ∙ is)
+
+pub no_line_there : (s : List ℕ) (at : ℕ) {found : Found} → found ≡ line_at s at → found ≡ End → lines_of (drop at s) ≡ []
+no_line_there s at found is = end_found s at (sym found ∙ is)
 
 -- total is the page in the end, p the page before the line and q the page after it
 then : (total p q : Page) (a b : List ℕ) → total ≡ typed p (a ++ b) → q ≡ typed p a → total ≡ typed q b

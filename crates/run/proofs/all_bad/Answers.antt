@@ -1,9 +1,8 @@
 -- `run::all_bad`: what is on the page, then the rest of the lines, is the whole.
 use Prim.Native.Nat.{◌-◌}
-use mathlib.Core.Path.{refl, sym, ◌∙◌}
+use mathlib.Core.Path.{refl, ◌∙◌}
 use native.Mathlib.Omega.{arith}
-use Rattle.sheet.proofs.Laws.{line_found, end_found}
-use Rattle.run.proofs.Laws.{bad_begins, bad_again, bad_end}
+use Rattle.run.proofs.Laws.{line_there, no_line_there, bad_begins, bad_again, bad_end}
 use Rattle.run.proofs.all_bad.Goals as goal
 
 pub loop-start-init : goal.loop-start-init
@@ -12,21 +11,22 @@ loop-start-init c = (c.requires, omega arith, refl, refl)
 pub returns-in-End : goal.returns-in-End
 returns-in-End c =
     let l = c.loop-start in
-    let none = end_found _ _ (sym c.read_line.ensures ∙ c.in-End.is) in
+    let none = no_line_there _ _ c.read_line.ensures c.in-End.is in
     bad_end _ _ c.args.sheet.now l.at _ none (bad_begins _ _ _ _ c.put_column-end.ensures ∙ l.invariant.2)
 
 pub overflow_add-line : goal.overflow_add-line
 overflow_add-line c =
     let i = c.loop-start.invariant in
-    omega (arith, i.0, i.1, (line_found _ _ _ _ _ (sym c.read_line.ensures ∙ c.in-Span.is)).onward, (line_found _ _ _ _ _ (sym c.read_line.ensures ∙ c.in-Span.is)).last)
+    let k = line_there c.read_line.ensures c.in-Span.is in
+    omega (arith, i.0, i.1, k.onward, k.last)
 
 pub loop-start-smaller : goal.loop-start-smaller
-loop-start-smaller c = omega (arith, (line_found _ _ _ _ _ (sym c.read_line.ensures ∙ c.in-Span.is)).onward, (line_found _ _ _ _ _ (sym c.read_line.ensures ∙ c.in-Span.is)).last)
+loop-start-smaller c = let k = line_there c.read_line.ensures c.in-Span.is in omega (arith, k.onward, k.last)
 
 pub loop-start-preserved : goal.loop-start-preserved
 loop-start-preserved c =
     let l = c.loop-start in
-    let k = line_found _ _ _ _ _ (sym c.read_line.ensures ∙ c.in-Span.is) in (
+    let k = line_there c.read_line.ensures c.in-Span.is in (
       l.invariant.0,
       omega (arith, l.invariant.1, k.onward),
       bad_again _ _ _ _ _ _ _ _ _ k l.invariant.2 c.put_column-end-in-Span.ensures,

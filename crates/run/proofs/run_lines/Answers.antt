@@ -1,12 +1,11 @@
 -- `run::run_lines`: what is on the page, then the rest of the lines at the system so far, is the whole.
 use Prim.Native.Nat.{◌-◌}
-use mathlib.Core.Path.{◌≡◌, refl, sym, ◌∙◌}
+use mathlib.Core.Path.{◌≡◌, refl, ◌∙◌}
 use mathlib.Core.Bool.{Bool, true}
 use native.Mathlib.Omega.{arith}
 use Rattle.view.specs.Logic.{pick}
 use Rattle.tallies.specs.declared.Tally.{Tally}
-use Rattle.sheet.proofs.Laws.{line_found, end_found}
-use Rattle.run.proofs.Laws.{printed_again, printed_end, tallied_again, tallied_end}
+use Rattle.run.proofs.Laws.{line_there, no_line_there, printed_again, printed_end, tallied_again, tallied_end}
 use Rattle.run.proofs.run_lines.Goals as goal
 
 -- one tally more
@@ -20,7 +19,7 @@ loop-image-init c = let pre = c.requires in (pre.0, pre.1, omega arith, refl, re
 pub returns-in-End : goal.returns-in-End
 returns-in-End c =
     let l = c.loop-image in
-    let none = end_found _ _ (sym c.read_line.ensures ∙ c.in-End.is) in
+    let none = no_line_there _ _ c.read_line.ensures c.in-End.is in
     let sheet = c.args.sheet.now in (
       printed_end _ _ _ sheet l.at _ _ none l.invariant.3 c.put_units-end.ensures,
       λ on. tallied_end _ _ _ _ sheet l.at _ _ none (l.invariant.6 on) c.still_waiting.ensures (asked _ _ _ _ c.sum_if-tally.ensures on),
@@ -29,17 +28,18 @@ returns-in-End c =
 pub overflow_add-line : goal.overflow_add-line
 overflow_add-line c =
     let i = c.loop-image.invariant in
-    omega (arith, i.1, i.2, (line_found _ _ _ _ _ (sym c.read_line.ensures ∙ c.in-Span.is)).onward, (line_found _ _ _ _ _ (sym c.read_line.ensures ∙ c.in-Span.is)).last)
+    let k = line_there c.read_line.ensures c.in-Span.is in
+    omega (arith, i.1, i.2, k.onward, k.last)
 
 pub loop-image-smaller : goal.loop-image-smaller
-loop-image-smaller c = let k = line_found _ _ _ _ _ (sym c.read_line.ensures ∙ c.in-Span.is) in omega (arith, k.onward, k.last)
+loop-image-smaller c = let k = line_there c.read_line.ensures c.in-Span.is in omega (arith, k.onward, k.last)
 
 pub loop-image-preserved : goal.loop-image-preserved
 loop-image-preserved c =
     let done = c.run_line-one in
     let i = c.loop-image.invariant in
     let said = c.parse.ensures in
-    let k = line_found _ _ _ _ _ (sym c.read_line.ensures ∙ c.in-Span.is) in (
+    let k = line_there c.read_line.ensures c.in-Span.is in (
       done.ensures.2,
       i.1,
       omega (arith, i.2, k.onward),
@@ -56,13 +56,13 @@ pub shape_of-out-in-End : goal.shape_of-out-in-End
 shape_of-out-in-End c = c.put_units-end.auto.out ∙ c.loop-image.invariant.4
 
 pub slice_bounds-parse-count : goal.slice_bounds-parse-count
-slice_bounds-parse-count c = (line_found _ _ _ _ _ (sym c.read_line.ensures ∙ c.in-Span.is)).ordered
+slice_bounds-parse-count c = (line_there c.read_line.ensures c.in-Span.is).ordered
 
 pub slice_bounds-parse-start : goal.slice_bounds-parse-start
-slice_bounds-parse-start c = (line_found _ _ _ _ _ (sym c.read_line.ensures ∙ c.in-Span.is)).ordered
+slice_bounds-parse-start c = (line_there c.read_line.ensures c.in-Span.is).ordered
 
 pub slice_bounds-parse-end : goal.slice_bounds-parse-end
-slice_bounds-parse-end c = (line_found _ _ _ _ _ (sym c.read_line.ensures ∙ c.in-Span.is)).within
+slice_bounds-parse-end c = (line_there c.read_line.ensures c.in-Span.is).within
 
 pub run_line-one-requires : goal.run_line-one-requires
 run_line-one-requires c = c.loop-image.invariant.0

@@ -22,39 +22,11 @@ owned n p x =
 pub returns-then-propout-eq1 : goal.returns-then-propout-eq1
 unfolding sound_variables pick
 returns-then-propout-eq1 c =
-    let own : c.and-own.result ≡ owned c.args.n c.args.p.0 c.args.x =
-    rw (
-      c.and-own.ensures,
-      c.has.ensures,
-      c.and-views.ensures,
-      c.within-3.ensures,
-      c.and-2.ensures,
-      c.within-2.ensures,
-      c.and.ensures,
-      c.within.ensures,
-      c.and-ranges.ensures,
-      c.in_range-2.ensures,
-      c.in_range.ensures,
-    )
-    in
+    let own : c.and-own.result ≡ owned c.args.n c.args.p.0 c.args.x = cc in
     rw (c.and-then-propout-eq1.ensures, own) (simp c.if-propout-eq1.true)
 
 pub returns-else-propout-eq1 : goal.returns-else-propout-eq1
 unfolding sound_variables pick
 returns-else-propout-eq1 c =
-    let own : c.and-own.result ≡ owned c.args.n c.args.p.0 c.args.x =
-    rw (
-      c.and-own.ensures,
-      c.has.ensures,
-      c.and-views.ensures,
-      c.within-3.ensures,
-      c.and-2.ensures,
-      c.within-2.ensures,
-      c.and.ensures,
-      c.within.ensures,
-      c.and-ranges.ensures,
-      c.in_range-2.ensures,
-      c.in_range.ensures,
-    )
-    in
+    let own : c.and-own.result ≡ owned c.args.n c.args.p.0 c.args.x = cc in
     rw (c.and-else-propout-eq1.ensures, own, c.has-else-propout-eq1.ensures) (simp (ne_eqb _ _ c.if-propout-eq1.false))
