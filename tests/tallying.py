@@ -68,7 +68,7 @@ LONG = {
     b"long.sheet": SHEETS[b"limit.sheet"][0] + b"\n",
     b"very_long.sheet": K1 + b"x" * 1_000_000,
 }
-# Sheets that are there, by names that are no text in UTF-8: they are not opened (docs/DECISIONS.md, 86).
+# Sheets that are there, by names that are not UTF-8: they are not opened (docs/DECISIONS.md, 86).
 NO_TEXT = {
     b"\xff\xfe\x01": K1,
     b"K1\x80.sheet": K1,

@@ -60,13 +60,9 @@ for p, t in texts.items():
             fields.add(name)
         elif "/specs/" in p:
             in_specs.add(name)
-        for m2 in re.finditer(rf"[({{]([^():{{}}]+) :", m.group(0)):
-            pass
 words = collections.Counter()
-by_file = {}
-for p, t in texts.items():
-    by_file[p] = set(TOKEN.findall(bare(t)))
-    words.update(by_file[p])
+for t in texts.values():
+    words.update(set(TOKEN.findall(bare(t))))
 
 turned = {"is_below": "is_below_lem", "len_off": "len_off_lem", "one_byte": "one_byte_lem", "none_done": "none_done_lem", "has_room": "has_room_lem", "all_done": "every_done", "at_rest": "rests", "no-message": "nobody_waits", "is-run": "runs_by"}
 not_after_dot = {"is_below", "len_off", "one_byte", "none_done", "has_room"}
@@ -77,7 +73,6 @@ for w in sorted(words):
         turned[w] = snake(w)
 heads = {snake(w) for w in in_specs if "-" not in w and len(w) > 2} | STD
 taken = {turned.get(w, w) for w in words if "-" not in w} | {turned.get(w, w) for w in defined if "-" not in w}
-GOAL = re.compile(r"^(returns|loop|sub|add|mul|cast|shr|shl|div|rem|bounds|part|invariant|decreases|Need|Then|Else|After|At|In|next)-")
 for w in sorted(defined):
     if w in turned or "-" not in w or w.startswith("+") or not re.match(r"[A-Za-z]", w) or re.search(r"-Inv-", w) or w.endswith("-spec"):
         continue
@@ -155,6 +150,4 @@ for p in PAGES:
     else:
         new = CAMEL.sub(lambda m: turned.get(m.group(0), m.group(0)), t)
     write(p, new, t)
-with open("/tmp/respelt.txt", "w") as f:
-    f.write("".join(f"{a} {b}\n" for a, b in sorted(turned.items())))
 print(len(turned), "names")

@@ -127,7 +127,7 @@ fn next_name<R: Read>(
 }
 
 // Opens and reads a sheet. One that is not tried, or cannot be opened, counts as a read that failed. A
-// path is text to the library, so that a name that is no UTF-8 cannot be opened.
+// path is text to the library, so a name that is not UTF-8 cannot be opened.
 fn read_sheet(files: &impl Files, name: &[u8], buf: &mut [u8]) -> Input
     ensures { IsPrefixLen result.len buf.new }
 {
