@@ -1,44 +1,39 @@
 -- Laws of channels: what waits after a message is put at the end, and after the oldest has come off.
 use Prim.Native.Nat.{ℕ, zero, suc, ◌-◌, ◌≤◌, ◌<◌}
-use mathlib.Core.Path.{◌≡◌, refl, sym, ◌∙◌, ap}
-use mathlib.Core.List.{List, [], ◌∷◌, ◌++◌, map}
+use mathlib.Core.Path.{◌≡◌, refl, sym, ◌∙◌}
+use mathlib.Core.List.{List, [], ◌∷◌, ◌++◌}
+use Rattle.std.specs.Prelude.{Some}
 use native.Mathlib.Omega.{arith}
 use native.Mathlib.Numerals.{add-one, sub-one}
 use native.Mathlib.Nat.{not-suc-le-zero}
 use borrow.Author.Tests.{lt-ltb, ltb-true}
 use lib.Dec.{ltb}
-use lib.ListN.{length, get_or, take, drop, length-set, length-append, length-drop, length-take, length-map}
+use lib.ListN.{length, get_or, take, drop, length-set, length-append, length-drop, length-take}
 use lib.Seq.{take-suc-set, take-append-le}
 use Rattle.view.specs.Logic.{pick}
 use Rattle.view.proofs.Laws.{by_pick}
 use Rattle.channel.specs.declared.Message.{Message}
-use Rattle.channel.specs.declared.Slot.{Slot}
 use Rattle.channel.specs.declared.Channel.{Channel}
-use Rattle.channel.specs.declared.Front.TheVariants.{Waiting}
-use Rattle.channel.specs.Channel.{slot, empty_channel, message, waiting, front_of, front, pushed, popped}
+use Rattle.channel.specs.Channel.{empty_channel, waiting, front_of, front, pushed, popped}
 
-first_waits : (l : List Slot) (n : ℕ) (d : Slot) → 0 < n → 0 < length l → front_of (map message (take n l)) ≡ Waiting (message (get_or l 0 d))
+first_waits : (l : List Message) (n : ℕ) (d : Message) → 0 < n → 0 < length l → front_of (take n l) ≡ Some (get_or l 0 d)
 first_waits [] n d h k = absurd (not-suc-le-zero k)
-first_waits (s ∷ l) zero d h k = absurd (not-suc-le-zero h)
-first_waits (s ∷ l) (suc n) d h k = refl
+first_waits (m ∷ l) zero d h k = absurd (not-suc-le-zero h)
+first_waits (m ∷ l) (suc n) d h k = refl
 
-pub front_waits : (c : Channel) (d : Slot) → length c.slots ≡ 8 → 0 < c.len → front c ≡ Waiting (message (get_or c.slots 0 d))
+pub front_waits : (c : Channel) (d : Message) → length c.slots ≡ 8 → 0 < c.len → front c ≡ Some (get_or c.slots 0 d)
 unfolding waiting
 front_waits c d e h = first_waits c.slots c.len d h (omega arith)
-
-map-append : (k l : List Slot) → map message (k ++ l) ≡ map message k ++ map message l
-map-append [] l = refl
-map-append (s ∷ k) l = ap (λ (r : List Message). message s ∷ r) (map-append k l)
 
 -- put at the end
 pub push_waiting : (c : Channel) (m : Message) → length c.slots ≡ 8 → c.len < 8 → waiting (pushed c m) ≡ waiting c ++ (m ∷ [])
 unfolding waiting pushed pick
-push_waiting c m e h = rw (lt-ltb _ _ h, add-one, take-suc-set c.slots c.len (slot m) (omega arith), map-append)
+push_waiting c m e h = rw (lt-ltb _ _ h, add-one, take-suc-set c.slots c.len m (omega arith))
 
-tail_of : (l k : List Slot) (n : ℕ) → length l ≡ 8 → n < 8
-    → drop 1 (map message (take (suc n) l)) ≡ map message (take n (drop 1 l ++ k))
+tail_of : (l k : List Message) (n : ℕ) → length l ≡ 8 → n < 8
+    → drop 1 (take (suc n) l) ≡ take n (drop 1 l ++ k)
 tail_of [] k n e h = absurd (omega arith)
-tail_of (s ∷ l) k n e h = ap (map message) (sym (take-append-le n l k (omega arith)))
+tail_of (m ∷ l) k n e h = sym (take-append-le n l k (omega arith))
 
 pop_from : (c : Channel) (n : ℕ) → c.len ≡ suc n → length c.slots ≡ 8 → n < 8 → drop 1 (waiting c) ≡ waiting (popped c)
 unfolding waiting popped pick
@@ -81,4 +76,4 @@ empty-waiting = refl
 -- as many wait as the length says
 pub length-waiting : (c : Channel) → length c.slots ≡ 8 → c.len ≤ 8 → length (waiting c) ≡ c.len
 unfolding waiting
-length-waiting c e h = length-map (take c.len c.slots) message ∙ simp length-take (omega arith)
+length-waiting c e h = simp length-take (omega arith)

@@ -8,7 +8,7 @@ ghost use Rattle.channel.specs.Channel.{empty_channel};
 use view::GroupIndex;
 
 // Figure 3's four kinds of message. A view is one byte.
-#[derive(Clone, Copy)]
+#[derive(Clone, Copy, PartialEq, Eq)]
 pub enum Message {
     Propose(u8, GroupIndex),
     Retry(GroupIndex, GroupIndex),
@@ -16,30 +16,20 @@ pub enum Message {
     Commit(u8, GroupIndex),
 }
 
-#[derive(Clone, Copy)]
-pub struct Slot {
-    pub message: Message,
-}
-
-// The first len slots hold the messages that wait, oldest first.
+// The first len slots hold the messages that wait, oldest first. A length beside the slots, since a damaged channel may say any.
 #[derive(Clone, Copy)]
 pub struct Channel {
-    pub slots: [Slot; 8],
+    pub slots: [Message; 8],
     pub len: u8,
 }
 
-#[derive(Clone, Copy)]
-pub enum Front {
-    Nothing,
-    Waiting(Message),
-}
-
-pub fn empty() -> Channel
-    ensures { result ≡ empty_channel }
-{
-    let blank = Slot {
-        message: Message::Propose(0, GroupIndex(0)),
-    };
-    let slots = [blank; 8];
-    Channel { slots, len: 0 }
+impl Channel {
+    pub fn empty() -> Channel
+        ensures { result ≡ empty_channel }
+    {
+        Channel {
+            slots: [Message::Propose(0, GroupIndex(0)); 8],
+            len: 0,
+        }
+    }
 }

@@ -2,21 +2,19 @@
 // cut, and refusals 12 and 7.
 #![tactic(auto)]
 
-ghost use Rattle.std.specs.Prelude.{ℕ, ◌+◌, ◌≡◌, true, eqb, ltb};
+ghost use Rattle.std.specs.Prelude.{ℕ, ◌+◌, ◌≡◌, true, false, eqb, ltb, IfOk};
 ghost use Rattle.view.specs.Logic.{pick};
 ghost use Rattle.view.specs.View.{with};
+ghost use Rattle.system.specs.declared.refusal.Refusal.TheVariants.{ChannelFull};
 ghost use Rattle.plan.specs.Fields.{with_view, with_next, with_acks, proposing, reproposing};
 ghost use Rattle.plan.specs.Plan.{new_view_plan, report_plan, committing_plan, message_plan, receive_plan, respond_plan};
-ghost use Rattle.plan.specs.Choice.{reported_plan, report_fits, received_plan, receive_numbered, responded_plan, respond_numbered};
-ghost use Rattle.plan.specs.Cut.{reach_of, refusal_of};
+ghost use Rattle.plan.specs.Choice.{reported_plan, report_fits, received_plan, responded_plan};
+ghost use Rattle.plan.specs.Cut.{reach_of, only_whole};
 
-use channel::{Front, Message};
-use system::refusal::{
-    CHANNEL_FULL, CUT_TOO_LATE, EARLY_TRUST, HISTORY_FULL, NO_RECORD, NOTHING_THERE, ODD_VIEW,
-    OTHER_VIEW, UNSOUND,
-};
-use system::{Pending, Variables};
-use view::{GroupIndex, ProcessId, and, count, first_of, has, least, minus, subset, with, within};
+use channel::Message;
+use system::refusal::Refusal;
+use system::{Proposal, Variables};
+use view::{GroupIndex, ProcessId, count, first_of, has, least, minus, subset, with, within};
 
 // What a process does in one step.
 #[derive(Clone, Copy)]
@@ -58,23 +56,45 @@ pub struct Scope {
     pub takes: bool,
 }
 
+impl Scope {
+    // An action of process p that takes no message and names process q.
+    pub fn facing(p: ProcessId, q: ProcessId) -> Self
+        ensures { result ≡ record { actor = p; partner = q; takes = false } }
+    {
+        Scope {
+            actor: p,
+            partner: q,
+            takes: false,
+        }
+    }
+
+    // A take, from process q at process p.
+    pub fn taking(q: ProcessId, p: ProcessId) -> Self
+        ensures { result ≡ record { actor = p; partner = q; takes = true } }
+    {
+        Scope {
+            actor: p,
+            partner: q,
+            takes: true,
+        }
+    }
+}
+
 // What becomes of the acting process: its variables; what it has recorded from the proposer, where
 // that is not 0; its history's entry at the index, where that is not 0.
 #[derive(Clone, Copy)]
 pub struct Change {
     pub variables: Variables,
     pub proposer: ProcessId,
-    pub pending: Pending,
+    pub pending: Option<Proposal>,
     pub index: GroupIndex,
     pub entry: u8,
 }
 
-// What a step does once it is permitted: it is refused with this number; or, at 0, the acting
-// process changes so, sends the message to every process of the view, and then stops or not; it comes
-// to suspect some processes, or goes on to.
+// What a step does once it is permitted: the acting process changes so, sends the message to every
+// process of the view, and then stops or not; it comes to suspect some processes, or goes on to.
 #[derive(Clone, Copy)]
 pub struct Plan {
-    pub refusal: u8,
     pub change: Change,
     pub stops: bool,
     pub addressees: u8,
@@ -85,64 +105,58 @@ pub struct Plan {
 pub fn with_view(x: Variables, view: u8) -> Variables
     ensures { result ≡ with_view x view }
 {
-    let mut y = x;
-    y.view = view;
-    y
+    Variables { view, ..x }
 }
 
 pub fn with_next(x: Variables, next: GroupIndex) -> Variables
     ensures { result ≡ with_next x next.0 }
 {
-    let mut y = x;
-    y.next = next;
-    y
+    Variables { next, ..x }
 }
 
 pub fn with_acks(x: Variables, acks: u8) -> Variables
     ensures { result ≡ with_acks x acks }
 {
-    let mut y = x;
-    y.acks = acks;
-    y
+    Variables { acks, ..x }
 }
 
 // The view becomes the local and the last proposed view, proposed at index i.
 pub fn proposing(x: Variables, view: u8, i: GroupIndex) -> Variables
     ensures { result ≡ proposing x view i.0 }
 {
-    let mut y = x;
-    y.view = view;
-    y.propout = i;
-    y.proposal = view;
-    y.acks = 0;
-    y
+    Variables {
+        view,
+        propout: i,
+        proposal: view,
+        acks: 0,
+        ..x
+    }
 }
 
 // The local view is proposed again, at index i.
 pub fn reproposing(x: Variables, i: GroupIndex) -> Variables
     ensures { result ≡ reproposing x i.0 }
 {
-    let mut y = x;
-    y.propout = i;
-    y.acks = 0;
-    y
+    Variables {
+        propout: i,
+        acks: 0,
+        ..x
+    }
 }
 
-// What becomes of a report: it is refused with this number; the process only takes the view over; or it
-// proposes the view at the index after PropOut, which is then below 32.
-#[derive(Clone, Copy)]
+// What becomes of a report that is permitted: the process only takes the view over; or it proposes the
+// view at the index after PropOut, which is then below 32.
+#[derive(Clone, Copy, PartialEq, Eq)]
 pub enum ReportChoice {
-    Refuse(u8),
     Adopt,
     ProposeAfter,
 }
 
-// What becomes of a message that is taken: the step is refused with this number and it stays; the
-// proposal is recorded; nothing else changes; these have acknowledged; all have, and the Commit goes
-// out; the local view is proposed again at the index; the view is entered at the index.
-#[derive(Clone, Copy)]
+// What becomes of a message that is taken: the proposal is recorded; nothing else changes; these have
+// acknowledged; all have, and the Commit goes out; the local view is proposed again at the index; the
+// view is entered at the index.
+#[derive(Clone, Copy, PartialEq, Eq)]
 pub enum ReceiveChoice {
-    Refuse(u8),
     Record(u8, GroupIndex),
     Skip,
     Mark(u8),
@@ -151,15 +165,15 @@ pub enum ReceiveChoice {
     Enter(u8, GroupIndex),
 }
 
-// What becomes of an answer: it is refused with this number; or Next becomes this and the message goes
-// to the proposer.
-#[derive(Clone, Copy)]
-pub enum RespondChoice {
-    Refuse(u8),
-    Reply(GroupIndex, Message),
+// What becomes of an answer that is permitted: Next becomes this and the message goes to the proposer.
+#[derive(Clone, Copy, PartialEq, Eq)]
+pub struct Reply {
+    pub next: GroupIndex,
+    pub message: Message,
 }
 
 // The index after this one, in a history.
+#[tactic(auto, unfolding(view::specs::Logic::pick))]
 pub fn after(i: GroupIndex) -> GroupIndex
     ensures { result ≡ record { 0 = pick (ltb i.0 32) (i.0 + 1) i.0 } }
 {
@@ -167,40 +181,47 @@ pub fn after(i: GroupIndex) -> GroupIndex
 }
 
 // Process p is told a view that names it and brings back only whom it may trust again.
-fn new_view(p: ProcessId, view: u8, x: Variables) -> ReportChoice
-    ensures { ((n : ℕ) → reported_plan n view x result ≡ new_view_plan n p.0 view x) × (report_fits x result ≡ true) }
+#[tactic(auto, unfolding(crate::specs::Plan::new_view_plan, crate::specs::Choice::reported_plan, view::specs::Logic::pick))]
+fn new_view(p: ProcessId, view: u8, x: Variables) -> Result<ReportChoice, Refusal>
+    ensures plan { (n : ℕ) → reported_plan n view x result ≡ new_view_plan n p.0 view x }
+    ensures fits { IfOk result (report_fits x) }
 {
-    if least(view).0 == p.0 {
-        if x.propout.0 < 32 {
-            ReportChoice::ProposeAfter
-        } else {
-            ReportChoice::Refuse(HISTORY_FULL)
-        }
+    if least(view) != p {
+        Ok(ReportChoice::Adopt)
+    } else if x.propout.0 < 32 {
+        Ok(ReportChoice::ProposeAfter)
     } else {
-        ReportChoice::Adopt
+        Err(Refusal::HistoryFull)
     }
 }
 
 // First guarded command: process p of n, which may trust some others again, is told a view.
-pub fn report_choice(n: u8, p: ProcessId, view: u8, x: Variables, trust: u8) -> ReportChoice
-    ensures { (reported_plan n view x result ≡ report_plan n p.0 view x trust) × (report_fits x result ≡ true) }
+#[tactic(auto, unfolding(crate::specs::Plan::report_plan, crate::specs::Choice::reported_plan, view::specs::Logic::pick))]
+pub fn report_choice(
+    n: u8,
+    p: ProcessId,
+    view: u8,
+    x: Variables,
+    trust: u8,
+) -> Result<ReportChoice, Refusal>
+    ensures plan { reported_plan n view x result ≡ report_plan n p.0 view x trust }
+    ensures fits { IfOk result (report_fits x) }
 {
-    if and(within(n, view), has(view, p)) {
-        if subset(minus(view, x.view), trust) {
-            new_view(p, view, x)
-        } else {
-            ReportChoice::Refuse(EARLY_TRUST)
-        }
+    if !(within(n, view) & has(view, p)) {
+        Err(Refusal::OddView)
+    } else if !subset(minus(view, x.view), trust) {
+        Err(Refusal::EarlyTrust)
     } else {
-        ReportChoice::Refuse(ODD_VIEW)
+        new_view(p, view, x)
     }
 }
 
 // Those who have acknowledged, with process q, where its Acc is for PropOut.
+#[tactic(auto, unfolding(view::specs::Logic::pick))]
 fn marked(q: ProcessId, x: Variables, i: GroupIndex) -> u8
     ensures { result ≡ pick (eqb x.propout.0 i.0) (with x.acks q.0) x.acks }
 {
-    if x.propout.0 == i.0 {
+    if x.propout == i {
         with(x.acks, q)
     } else {
         x.acks
@@ -208,11 +229,12 @@ fn marked(q: ProcessId, x: Variables, i: GroupIndex) -> u8
 }
 
 // After the mark: Commit, once all of the last proposed view have acknowledged.
+#[tactic(auto, unfolding(crate::specs::Plan::committing_plan, crate::specs::Choice::received_plan, view::specs::Logic::pick))]
 fn committing(x: Variables, acks: u8) -> ReceiveChoice
-    ensures { ((q : ProcessId) → received_plan q x result ≡ committing_plan (with_acks x acks)) × (receive_numbered result ≡ true) }
+    ensures { (q : ProcessId) → received_plan q x (Ok result) ≡ committing_plan (with_acks x acks) }
 {
     let view = x.proposal;
-    if and(view != 0, subset(view, acks)) {
+    if (view != 0) & subset(view, acks) {
         ReceiveChoice::CommitAll
     } else {
         ReceiveChoice::Mark(acks)
@@ -220,113 +242,123 @@ fn committing(x: Variables, acks: u8) -> ReceiveChoice
 }
 
 // Process p takes the message m of process q.
-fn message_choice(q: ProcessId, p: ProcessId, x: Variables, m: Message) -> ReceiveChoice
-    ensures { (received_plan q x result ≡ message_plan q p.0 x m) × (receive_numbered result ≡ true) }
+#[tactic(auto, unfolding(crate::specs::Plan::message_plan, crate::specs::Choice::received_plan, view::specs::Logic::pick))]
+fn message_choice(
+    q: ProcessId,
+    p: ProcessId,
+    x: Variables,
+    m: Message,
+) -> Result<ReceiveChoice, Refusal>
+    ensures { received_plan q x result ≡ message_plan q p.0 x m }
 {
     match m {
-        Message::Propose(v, i) => ReceiveChoice::Record(v, i),
+        Message::Propose(v, i) => Ok(ReceiveChoice::Record(v, i)),
         Message::Retry(old, new) => {
-            if and(x.propout.0 == old.0, least(x.view).0 == p.0) {
-                if new.0 <= 32 {
-                    ReceiveChoice::ProposeAgain(new)
-                } else {
-                    ReceiveChoice::Refuse(HISTORY_FULL)
-                }
+            if (x.propout != old) | (least(x.view) != p) {
+                Ok(ReceiveChoice::Skip)
+            } else if new.0 <= 32 {
+                Ok(ReceiveChoice::ProposeAgain(new))
             } else {
-                ReceiveChoice::Skip
+                Err(Refusal::HistoryFull)
             }
         }
-        Message::Acc(i) => committing(x, marked(q, x, i)),
-        Message::Commit(v, i) => ReceiveChoice::Enter(v, i),
+        Message::Acc(i) => Ok(committing(x, marked(q, x, i))),
+        Message::Commit(v, i) => Ok(ReceiveChoice::Enter(v, i)),
     }
 }
 
 // Second guarded command: process p takes the oldest message of process q, if one waits.
-pub fn receive_choice(q: ProcessId, p: ProcessId, x: Variables, front: Front) -> ReceiveChoice
-    ensures { (received_plan q x result ≡ receive_plan q p.0 x front) × (receive_numbered result ≡ true) }
+#[tactic(auto, unfolding(crate::specs::Plan::receive_plan, crate::specs::Choice::received_plan))]
+pub fn receive_choice(
+    q: ProcessId,
+    p: ProcessId,
+    x: Variables,
+    front: Option<Message>,
+) -> Result<ReceiveChoice, Refusal>
+    ensures { received_plan q x result ≡ receive_plan q p.0 x front }
 {
     match front {
-        Front::Nothing => ReceiveChoice::Refuse(NOTHING_THERE),
-        Front::Waiting(m) => message_choice(q, p, x, m),
+        None => Err(Refusal::NothingThere),
+        Some(m) => message_choice(q, p, x, m),
     }
 }
 
 // Third guarded command: what is recorded from a process is answered.
-pub fn respond_choice(x: Variables, pending: Pending) -> RespondChoice
-    ensures { ((q : ProcessId) → responded_plan q x result ≡ respond_plan q x pending) × (respond_numbered result ≡ true) }
+#[tactic(auto, unfolding(crate::specs::Plan::respond_plan, crate::specs::Choice::responded_plan, view::specs::Logic::pick))]
+pub fn respond_choice(x: Variables, pending: Option<Proposal>) -> Result<Reply, Refusal>
+    ensures { (q : ProcessId) → responded_plan q x result ≡ respond_plan q x pending }
 {
-    match pending {
-        Pending::Nothing => RespondChoice::Refuse(NO_RECORD),
-        Pending::Proposal(v, i) => {
-            let next = x.next;
-            if v == x.view {
-                if i.0 < next.0 {
-                    RespondChoice::Reply(next, Message::Retry(i, next))
-                } else if i.0 <= 32 {
-                    RespondChoice::Reply(GroupIndex(i.0 + 1), Message::Acc(i))
-                } else {
-                    // No sound system has such a record.
-                    RespondChoice::Refuse(UNSOUND)
-                }
-            } else {
-                RespondChoice::Refuse(OTHER_VIEW)
-            }
-        }
+    let Some(Proposal { view, index }) = pending else {
+        return Err(Refusal::NoRecord);
+    };
+    let next = x.next;
+    if view != x.view {
+        Err(Refusal::OtherView)
+    } else if index.0 < next.0 {
+        Ok(Reply {
+            next,
+            message: Message::Retry(index, next),
+        })
+    } else if index.0 <= 32 {
+        Ok(Reply {
+            next: GroupIndex(index.0 + 1),
+            message: Message::Acc(index),
+        })
+    } else {
+        // No sound system has such a record.
+        Err(Refusal::Unsound)
     }
 }
 
-// To whom the message of a step goes: it is refused with this number; or, at 0, it goes to these, and
-// then the process stops or not.
+// To whom the message of a step goes: to these, and then the process stops or not.
 #[derive(Clone, Copy)]
 pub struct Reach {
-    pub refusal: u8,
     pub addressees: u8,
     pub stops: bool,
 }
 
 // The reach of a message to these processes.
-pub fn reach_of(cut: Cut, to: u8) -> Reach
+#[tactic(auto, unfolding(crate::specs::Cut::reach_of, view::specs::Logic::pick))]
+pub fn reach_of(cut: Cut, to: u8) -> Result<Reach, Refusal>
     ensures { result ≡ reach_of cut to }
 {
     match cut {
-        Cut::Whole => Reach {
-            refusal: 0,
+        Cut::Whole => Ok(Reach {
             addressees: to,
             stops: false,
-        },
+        }),
         Cut::After(k) => {
             if k < count(to) {
-                Reach {
-                    refusal: 0,
+                Ok(Reach {
                     addressees: first_of(k, to),
                     stops: true,
-                }
+                })
             } else {
-                Reach {
-                    refusal: CUT_TOO_LATE,
-                    addressees: 0,
-                    stops: false,
-                }
+                Err(Refusal::CutTooLate)
             }
         }
     }
 }
 
-// Refusals 12 and 7, in this order, or 0: a message that reaches so far, where its addressees have room or
-// have not.
-pub fn refusal_of(t: Reach, room: bool) -> u8
-    ensures { result ≡ refusal_of t room }
+// Refusal 7, unless the addressees of a message have room.
+#[tactic(auto, unfolding(view::specs::Logic::pick))]
+pub fn require_room(room: bool) -> Result<(), Refusal>
+    ensures { result ≡ pick room (Ok tt) (Err ChannelFull) }
 {
-    if t.refusal == 0 {
-        if room { 0 } else { CHANNEL_FULL }
+    if room {
+        Ok(())
     } else {
-        t.refusal
+        Err(Refusal::ChannelFull)
     }
 }
 
-// The same of a step that sends nothing: it wants no room, and any cut of it is too late.
-pub fn quiet_refusal(cut: Cut) -> u8
-    ensures { result ≡ (reach_of cut 0).refusal }
+// A step that sends nothing wants no room, and any cut of it is too late: refusal 12.
+#[tactic(auto, unfolding(crate::specs::Cut::only_whole))]
+pub fn require_whole(cut: Cut) -> Result<(), Refusal>
+    ensures { result ≡ only_whole cut }
 {
-    refusal_of(reach_of(cut, 0), true)
+    match cut {
+        Cut::Whole => Ok(()),
+        Cut::After(_) => Err(Refusal::CutTooLate),
+    }
 }

@@ -11,11 +11,11 @@ use Rattle.view.specs.View.{has, within, everyone}
 use Rattle.channel.specs.declared.Message.{Message}
 use Rattle.channel.specs.declared.Message.TheVariants.{Propose, Retry, Acc, Commit}
 use Rattle.channel.specs.declared.Channel.{Channel}
-use Rattle.channel.specs.Channel.{slot, empty_channel, waiting}
-use Rattle.system.specs.declared.Pending.TheVariants.{Proposal}
+use Rattle.channel.specs.Channel.{empty_channel, waiting}
+use Rattle.std.specs.Prelude.{Some}
 use Rattle.system.specs.declared.Process.{Process}
 use Rattle.system.specs.declared.System.{System}
-use Rattle.system.specs.Process.{index, entry_at, with_entry, pending_at, with_pending, with_variables, with_history}
+use Rattle.system.specs.Process.{index, proposal_of, entry_at, with_entry, pending_at, with_pending, with_variables, with_history}
 use Rattle.system.specs.System.{no_process, process_at, with_process, channel_number, channel_at, with_channel}
 use Rattle.system.specs.Fresh.{fresh_variables, fresh_process, fresh_system}
 use Rattle.sound.specs.Sound.{every, sound_proposal, sound_message, sound_pending, sound_channel, sound_history, sound_variables, sound_process, sound_channel_at, sound_at, sound_system}
@@ -60,11 +60,11 @@ holding i v x = with_history x (with_entry x.history i v)
 
 -- process 2 has recorded a proposal from process 1
 abbrev pub recorded : ℕ → ℕ → System
-recorded v i = altered 2 (λ x. with_pending x 1 (Proposal v (index i)))
+recorded v i = altered 2 (λ x. with_pending x 1 (Some (proposal_of v (index i))))
 
 -- a channel whose eight slots hold the same message, of which k wait
 abbrev pub filled : Message → ℕ → Channel
-filled m k = record { slots = replicate 8 (slot m); len = k }
+filled m k = record { slots = replicate 8 m; len = k }
 
 -- k of them from process 1 to process 2
 abbrev pub sending : ℕ → Message → System
@@ -165,7 +165,7 @@ examples =
     ∷ unsound (sending 1 (Retry (index 2) (index 34)))
     -- what lies past n is no part of the table: a process, a record from it, a channel to it and one from it
     ∷ sound (altered 3 (of_next 0))
-    ∷ sound (altered 1 (λ x. with_pending x 3 (Proposal 255 (index 0))))
+    ∷ sound (altered 1 (λ x. with_pending x 3 (Some (proposal_of 255 (index 0)))))
     ∷ sound (with_channel two 1 3 (filled (Acc (index 0)) 9))
     ∷ sound (with_channel two 3 1 (filled (Acc (index 0)) 9))
     -- what lies past a channel's length is not either

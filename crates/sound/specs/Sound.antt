@@ -2,20 +2,18 @@
 -- holds a non-empty view at each unit; each local view contains its own unit; the last proposed view is empty if PropOut is 1
 -- and otherwise contains its own unit; every line towards a stopped unit is empty. Messages and recorded proposals must be
 -- sound too". What lies past n, or past a channel's length, is no part of the table.
-use Rattle.std.specs.Prelude.{ℕ, ◌+◌, Bool, true, ◌&&◌, ◌||◌, not, List, [], ◌∷◌, leb, eqb}
+use Rattle.std.specs.Prelude.{ℕ, ◌+◌, Bool, true, ◌&&◌, ◌||◌, not, List, [], ◌∷◌, None, Some, leb, eqb}
 use Rattle.view.specs.Logic.{pick, all_up_to}
 use Rattle.view.specs.View.{has, within}
 use Rattle.channel.specs.declared.Message.{Message}
 use Rattle.channel.specs.declared.Message.TheVariants.{Propose, Retry, Acc, Commit}
 use Rattle.channel.specs.declared.Channel.{Channel}
 use Rattle.channel.specs.Channel.{waiting}
-use Rattle.system.specs.declared.Pending.{Pending}
-use Rattle.system.specs.declared.Pending.TheVariants.{Nothing, Proposal}
 use Rattle.system.specs.declared.History.{History}
 use Rattle.system.specs.declared.Variables.{Variables}
 use Rattle.system.specs.declared.Process.{Process}
 use Rattle.system.specs.declared.System.{System}
-use Rattle.system.specs.Process.{entry_at, pending_at}
+use Rattle.system.specs.Process.{Pending, entry_at, pending_at}
 use Rattle.system.specs.System.{process_at, variables_at, channel_at}
 
 abbrev pub in_range : ℕ → ℕ → ℕ → Bool
@@ -39,8 +37,8 @@ sound_message n q p (Commit v i) = sound_proposal n q p v i.0
 
 -- ".. and so does a recorded proposal": what process p has recorded from process q
 unfoldable pub sound_pending : ℕ → ℕ → ℕ → Pending → Bool
-sound_pending n q p Nothing = true
-sound_pending n q p (Proposal v i) = sound_proposal n q p v i.0
+sound_pending n q p None = true
+sound_pending n q p (Some r) = sound_proposal n q p r.view r.index.0
 
 -- the channel from q to p: "It holds 0 to 8 messages"; "every line towards a stopped unit is empty"
 unfoldable pub sound_channel : ℕ → Bool → ℕ → ℕ → Channel → Bool

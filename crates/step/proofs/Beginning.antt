@@ -5,15 +5,15 @@ use mathlib.Core.Bool.{true}
 use mathlib.Core.List.{List, []}
 use native.Mathlib.Omega.{arith}
 use lib.ListN.{length, replicate}
+use Rattle.std.specs.Prelude.{None}
 use Rattle.view.specs.Logic.{pick, all_up_to, at, put, is_one_of}
 use Rattle.view.specs.View.{has, within, everyone}
 use Rattle.view.proofs.Laws.{one_of, at_replicate, at_put_other}
 use Rattle.view.proofs.Table.{below}
 use Rattle.channel.specs.Channel.{empty_channel, waiting}
 use Rattle.channel.proofs.Laws.{empty_long, empty-waiting}
-use Rattle.system.specs.declared.Pending.TheVariants.{Nothing}
 use Rattle.system.specs.declared.Process.{Process}
-use Rattle.system.specs.Process.{entry_at, with_entry, no_entries, pending_at, pending_slot}
+use Rattle.system.specs.Process.{Pending, entry_at, with_entry, no_entries, pending_at}
 use Rattle.system.specs.System.{no_process, process_at, variables_at, channel_number, channel_at}
 use Rattle.system.specs.Fresh.{fresh_variables, fresh_process, fresh_system}
 use Rattle.sound.specs.Sound.{every, sound_proposal, sound_message, sound_pending, sound_channel, sound_history, sound_variables, sound_process, sound_channel_at, sound_at, sound_system}
@@ -64,12 +64,12 @@ module _ (n : ℕ) where
 
   pub fresh_variables_lem : (p : ℕ) → 1 ≤ p → p ≤ 8 → variables_at (fresh_system n) p ≡ fresh_variables n
   unfolding fresh_process
-  fresh_variables_lem p low high = ap (λ (x : Process). x.variables) (fresh_process_lem p low high)
+  fresh_variables_lem p low high = grind (arith, fresh_process_lem)
 
-  pub nothing_recorded : (p q : ℕ) → pending_at (process_at (fresh_system n) p) q ≡ Nothing
+  pub nothing_recorded : (p q : ℕ) → pending_at (process_at (fresh_system n) p) q ≡ None
   unfolding pending_at fresh_process no_process
   nothing_recorded p q =
-      each_fresh (λ x. (at x.pending q (pending_slot Nothing)).pending ≡ Nothing) (rw (at_replicate 8 q (pending_slot Nothing))) (rw (at_replicate 8 q (pending_slot Nothing))) p
+      each_fresh (λ x. at x.pending q None ≡ None) (rw (at_replicate {A = Pending} 8 q None)) (rw (at_replicate {A = Pending} 8 q None)) p
 
   -- ---- its channels
   pub fresh_channel : (q p : ℕ) → channel_at (fresh_system n) q p ≡ empty_channel

@@ -6,7 +6,7 @@ use native.Mathlib.Omega.{arith}
 use lib.ListN.{length}
 use Rattle.view.specs.Logic.{each_up_to, at, is_one_of}
 use Rattle.view.specs.View.{has}
-use Rattle.view.proofs.Laws.{one_of, by_pick, by_test, by_number, true_is_not_false}
+use Rattle.view.proofs.Laws.{by_pick, by_number, true_is_not_false}
 use Rattle.view.proofs.Sets.{has_number}
 use Rattle.channel.specs.declared.Message.{Message}
 use Rattle.channel.specs.declared.Channel.{Channel}
@@ -42,15 +42,7 @@ pub record Told (v : System) (p to : ℕ) (m : Message) (k : ℕ) (t : System) :
 module _ (v : System) (shape : Shape v) (p : ℕ) (number : Numbered p) (to : ℕ) (m : Message) where
   -- the process whose turn it is is told nothing
   passed_over : (k : ℕ) (t : System) → (has to (suc k) ≡ true → (variables_at v (suc k)).crashed ≡ false → ⊥) → Told v p to m k t → Told v p to m (suc k) t
-  passed_over k t none w =
-      record {
-        frame = w.frame;
-        reached = λ b h named live.
-            by_number b (suc k)
-            (λ e. absurd (none (subst (λ (j : ℕ). has to j ≡ true) e named) (subst (λ (j : ℕ). (variables_at v j).crashed ≡ false) e live)))
-            (λ n. w.reached b (omega arith) named live);
-        rest = λ a b h. w.rest a b (λ e l. h e (omega arith));
-      }
+  passed_over k t none w = grind arith
 
   told-one : (k : ℕ) (t : System) → k < 8 → has to (suc k) ≡ true → (variables_at v (suc k)).crashed ≡ false → Told v p to m k t
       → Told v p to m (suc k) (with_channel t p (suc k) (pushed (channel_at t p (suc k)) m))
@@ -77,12 +69,7 @@ module _ (v : System) (shape : Shape v) (p : ℕ) (number : Numbered p) (to : �
 
   told_up_to : (k : ℕ) → k ≤ 8 → Told v p to m k (each_up_to k (sent_if_named p to m) v)
   unfolding each_up_to sent_if_named sent
-  told_up_to zero h =
-      record {
-        frame = channels_same v shape;
-        reached = λ b l named live. absurd (omega (arith, has_number to b named));
-        rest = λ a b n. refl;
-      }
+  told_up_to zero h = grind (arith, has_number)
   told_up_to (suc k) h =
       let t = each_up_to k (sent_if_named p to m) v in
       let w = told_up_to k (omega arith) in
@@ -106,8 +93,7 @@ pub record Emptied (v : System) (p k : ℕ) (t : System) : Type 0 where
 
 pub emptied_up_to : (v : System) → Shape v → (p : ℕ) → Numbered p → (k : ℕ) → k ≤ 8 → Emptied v p k (each_up_to k (emptied_from p) v)
 unfolding each_up_to emptied_from
-emptied_up_to v shape p number zero h =
-    record { frame = channels_same v shape; reached = λ a l u. absurd (omega arith); rest = λ a b n. refl }
+emptied_up_to v shape p number zero h = grind arith
 emptied_up_to v shape p number (suc k) h =
     let t = each_up_to k (emptied_from p) v in
     let w = emptied_up_to v shape p number k (omega arith) in
@@ -129,4 +115,4 @@ unfolding channel_at at
 no_channel s a b e = rw (number_out a b (rw e))
 
 pub emptied_all : (v : System) (p : ℕ) (t : System) → Emptied v p 8 t → (a : ℕ) → channel_at t a p ≡ empty_channel
-emptied_all v p t w a = by_test (is_one_of 8 a) (λ e. w.reached a (one_of 8 a e).0 (one_of 8 a e).1) (λ e. no_channel t a p e)
+emptied_all v p t w a = grind (arith, no_channel)

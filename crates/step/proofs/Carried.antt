@@ -6,26 +6,25 @@ use mathlib.Core.List.{List, [], ◌∷◌, ◌++◌}
 use native.Mathlib.Omega.{arith}
 use borrow.Author.Tests.{ltb-true, eqb-true, eqb-false}
 use lib.ListN.{length, drop}
-use lib.Dec.{ltb, eqb}
+use lib.Dec.{eqb}
 use Rattle.view.specs.Logic.{pick, each_up_to, is_one_of}
-use Rattle.view.specs.View.{has, count_of}
-use Rattle.view.proofs.Laws.{one_of, by_pick, by_test, by_number, true_is_not_false, all_elim, each_keeps, length-put, and_left, and_right}
+use Rattle.view.specs.View.{has}
+use Rattle.view.proofs.Laws.{one_of, by_pick, true_is_not_false, all_elim, each_keeps, length-put, and_left, and_right}
 use Rattle.view.proofs.Sets.{has_number, count_none, first_has}
 use Rattle.channel.specs.declared.Message.{Message}
 use Rattle.channel.specs.declared.Channel.{Channel}
-use Rattle.channel.specs.Channel.{empty_channel, waiting, pushed, popped}
+use Rattle.channel.specs.Channel.{empty_channel, waiting, popped}
 use Rattle.channel.proofs.Laws.{push_waiting, push_short, empty_short, empty-waiting, pop_waiting, pop_long, pop_short}
 use Rattle.system.specs.declared.Process.{Process}
 use Rattle.system.specs.declared.System.{System}
-use Rattle.system.specs.declared.Outcome.{Outcome}
+use Rattle.system.specs.Outcome.{Outcome}
 use Rattle.system.specs.Process.{as_crashed, with_variables, with_entry}
 use Rattle.system.specs.System.{process_at, variables_at, with_process, channel_at, with_channel, with_trust, trusting, broadcasted, takes_if_named, room_for}
 use Rattle.plan.specs.declared.Change.{Change}
 use Rattle.plan.specs.declared.Cut.{Cut}
 use Rattle.plan.specs.declared.Cut.TheVariants.{Whole, After}
-use Rattle.plan.specs.declared.Plan.{Plan}
 use Rattle.plan.specs.declared.Scope.{Scope}
-use Rattle.plan.specs.Plan.{changed}
+use Rattle.plan.specs.Plan.{changed, Planned}
 use Rattle.plan.specs.Cut.{cut_short, cut_by}
 use Rattle.step.specs.Step.{departed, suspected_if_named, doubted, changed_at, crashed_at, crashed_if, effected, taken_off, carried_out, permitted}
 use Rattle.step.proofs.Frames.{Shape, Numbered, channels_stay, process_same, process_other, channel_same, channel_apart, shape_process, each_channel}
@@ -66,17 +65,11 @@ module _ (s u : System) (ready : Ready s u) (p : ℕ) (number : Numbered p) (liv
 
   pub same_crashed : (b : ℕ) → (variables_at v b).crashed ≡ (variables_at s b).crashed
   unfolding changed
-  same_crashed b =
-      by_number b p
-      (λ e.
-      subst (λ (j : ℕ). (variables_at v j).crashed ≡ (variables_at s j).crashed) (sym e)
-      (ap (λ (y : Process). y.variables.crashed) (process_same u ready.frame.shape p number x) ∙ calm ∙ sym live))
-      (λ n. ap (λ (y : Process). y.variables.crashed) (process_other u ready.frame.shape p number x b n ∙ ready.frame.processes b))
+  same_crashed b = grind (arith, process_same, process_other)
 
   actor_changed : process_at w p ≡ afterwards (process_at s p) c false
   unfolding changed afterwards
-  actor_changed =
-      out.frame.processes p ∙ process_same u ready.frame.shape p number x ∙ ap (λ (y : Process). changed y c) (ready.frame.processes p)
+  actor_changed = grind (arith, out, process_same)
 
   pub has_room_lem : (b : ℕ) → has to b ≡ true → (variables_at s b).crashed ≡ false → (channel_at u p b).len < 8
   unfolding room_for takes_if_named
@@ -86,25 +79,14 @@ module _ (s u : System) (ready : Ready s u) (p : ℕ) (number : Numbered p) (liv
       ltb-true (channel_at u p b).len 8 (rw (named, on-u) at (all_elim 8 (takes_if_named u p to) room b k.0 k.1))
 
   goes_out : (b : ℕ) → has to b ≡ true → (variables_at s b).crashed ≡ false → waiting_at w p b ≡ waiting_at u p b ++ (m ∷ [])
-  goes_out b named on =
-      ap waiting (out.reached b (has_number to b named).1 named (same_crashed b ∙ on) ∙ ap (λ (d : Channel). pushed d m) (channels_stay u p x p b))
-      ∙ push_waiting (channel_at u p b) m (ready.frame.shape.slots p b) (has_room_lem b named on)
+  goes_out b named on = grind (arith, out, has_number, same_crashed, channels_stay, push_waiting, has_room_lem)
 
   pub as_before : (a b : ℕ) → (a ≡ p → has to b ≡ true → (variables_at s b).crashed ≡ false → ⊥) → channel_at w a b ≡ channel_at u a b
-  as_before a b h = out.rest a b (λ e l named on. h e named (sym (same_crashed b) ∙ on)) ∙ channels_stay u p x a b
+  as_before a b h = grind (arith, out, same_crashed, channels_stay)
 
   -- one channel, by whether m goes out on it
   on_channel : {C : Type 0} (a b : ℕ) → (a ≡ p → has to b ≡ true → (variables_at s b).crashed ≡ false → C) → (channel_at w a b ≡ channel_at u a b → C) → C
-  on_channel a b goes stays_so =
-      by_number a p
-      (λ e.
-      by_test (has to b)
-      (λ named.
-      by_test (variables_at s b).crashed
-      (λ crashed. stays_so (as_before a b (λ i j on. true_is_not_false (sym crashed ∙ on))))
-      (λ on. goes e named on))
-      (λ other. stays_so (as_before a b (λ i named. true_is_not_false (sym named ∙ other)))))
-      (λ n. stays_so (as_before a b (λ e. absurd (n e))))
+  on_channel a b goes stays_so = grind (arith, as_before)
 
   pub sent_effect : Effect s w (waiting_at u) p c false to m
   sent_effect =
@@ -112,7 +94,7 @@ module _ (s u : System) (ready : Ready s u) (p : ℕ) (number : Numbered p) (liv
         shape = out.frame.shape;
         size = out.frame.size ∙ v_size ∙ ready.frame.size;
         actor = actor_changed;
-        others = λ k n. out.frame.processes k ∙ process_other u ready.frame.shape p number x k n ∙ ready.frame.processes k;
+        others = λ k n. grind (arith, out, process_other);
         told = to;
         addressed = λ b h. h;
         whole = λ e b h. h;
@@ -122,14 +104,7 @@ module _ (s u : System) (ready : Ready s u) (p : ℕ) (number : Numbered p) (liv
             (λ same. stays (ap waiting same));
         sent = λ b named on h. goes_out b named on;
         silent = λ e. true_is_not_false (sym e);
-        short = λ a b h.
-            on_channel a b
-            (λ e named on.
-            subst (λ (i : ℕ). (channel_at w i b).len ≤ 8) (sym e)
-            (subst (λ (d : Channel). d.len ≤ 8)
-            (sym (out.reached b (has_number to b named).1 named (same_crashed b ∙ on) ∙ ap (λ (d : Channel). pushed d m) (channels_stay u p x p b)))
-            (push_short (channel_at u p b) m (ready.short p b (subst (λ (i : ℕ). (channel_at s i b).len ≤ 8) e h)))))
-            (λ same. subst (λ (d : Channel). d.len ≤ 8) (sym same) (ready.short a b h));
+        short = grind (arith, out, channels_stay, push_short);
       }
 
 -- ---- and p stops
@@ -154,9 +129,7 @@ module _ {s w : System} {left : ℕ → ℕ → List Message} {p : ℕ} {c : Cha
 
   stopped_actor : process_at (crashed_at w p) p ≡ afterwards (process_at s p) c true
   unfolding afterwards with_variables as_crashed
-  stopped_actor =
-      gone.frame.processes p ∙ process_same w f.shape p number stopped
-      ∙ ap (λ (x : Process). with_variables x (as_crashed x.variables)) f.actor
+  stopped_actor = grind (arith, gone, process_same)
 
   pub elsewhere : (a b : ℕ) → (b ≡ p → ⊥) → channel_at (crashed_at w p) a b ≡ channel_at w a b
   elsewhere a b n = gone.rest a b n ∙ channels_stay w p stopped a b
@@ -175,21 +148,14 @@ module _ {s w : System} {left : ℕ → ℕ → List Message} {p : ℕ} {c : Cha
         shape = gone.frame.shape;
         size = gone.frame.size ∙ halted_size ∙ f.size;
         actor = stopped_actor;
-        others = λ k n. gone.frame.processes k ∙ process_other w f.shape p number stopped k n ∙ f.others k n;
+        others = λ k n. grind (arith, gone, process_other);
         told = f.told;
         addressed = f.addressed;
         whole = λ e. true_is_not_false e;
-        channels = λ a b.
-            by_number b p
-            (λ e. empties e refl (subst (λ (j : ℕ). waiting_at (crashed_at w p) a j ≡ []) (sym e) (ap waiting (towards a) ∙ empty-waiting)))
-            (λ n. same_fate a b n (f.channels a b));
-        sent = λ b named on h.
-            by_number b p (λ e. true_is_not_false (h e)) (λ n. ap waiting (elsewhere p b n) ∙ f.sent b named on (λ e. refl));
+        channels = grind (arith, towards, empty-waiting, same_fate);
+        sent = grind (arith, elsewhere);
         silent = λ e a. ap waiting (towards a) ∙ empty-waiting;
-        short = λ a b h.
-            by_number b p
-            (λ e. subst (λ (j : ℕ). (channel_at (crashed_at w p) a j).len ≤ 8) (sym e) (subst (λ (d : Channel). d.len ≤ 8) (sym (towards a)) empty_short))
-            (λ n. subst (λ (d : Channel). d.len ≤ 8) (sym (elsewhere a b n)) (f.short a b h));
+        short = grind (arith, towards, empty_short, elsewhere);
       }
 
 -- p comes to suspect others first: no process and no channel changes by that
@@ -216,14 +182,10 @@ doubted_shape u shape p d =
 
 pub doubted_ready : (s u : System) → Ready s u → (p d : ℕ) → Ready s (doubted u p d)
 unfolding doubted with_trust process_at channel_at
-doubted_ready s u ready p d =
-    record {
-      frame = record { shape = doubted_shape u ready.frame.shape p d; size = ready.frame.size; processes = ready.frame.processes };
-      short = ready.short;
-    }
+doubted_ready s u ready p d = grind (arith, doubted_shape)
 
 -- the effect of any plan. No change touches whether a process has stopped: that is for the stop
-pub plan_effect : (s u : System) → Ready s u → (p : ℕ) → Numbered p → (variables_at s p).crashed ≡ false → (a : Plan) → a.change.variables.crashed ≡ false
+pub plan_effect : (s u : System) → Ready s u → (p : ℕ) → Numbered p → (variables_at s p).crashed ≡ false → (a : Planned) → a.change.variables.crashed ≡ false
     → room_for u p a.addressees ≡ true
     → Effect s (effected u p a) (waiting_at u) p a.change a.stops a.addressees a.message
 unfolding effected changed_at crashed_if pick doubted with_trust channel_at room_for takes_if_named process_at
@@ -255,10 +217,7 @@ same_ready s shape = record { frame = channels_same s shape; short = λ a b h. h
 -- where a message waits, the length is not 0
 some_wait : (c : Channel) (m : Message) (ms : List Message) → waiting c ≡ m ∷ ms → 0 < c.len
 unfolding waiting
-some_wait c m ms e =
-    by_number c.len 0
-    (λ z. absurd (let y : ◌≡◌ {A = List Message} [] (m ∷ ms) = sym (ap (λ (k : ℕ). waiting (record { slots = c.slots; len = k })) z) ∙ e in let b : ◌≡◌ {A = ℕ} 0 1 = cc in omega arith))
-    (λ n. omega arith)
+some_wait c m ms e = grind arith
 
 pub taken_first : (s : System) → Shape s → (q p : ℕ) → Numbered q → Numbered p → (channel_at s q p).len ≤ 8 → (m : Message) (ms : List Message) → waiting_at s q p ≡ m ∷ ms
     → Taken s q p m (waiting_at (with_channel s q p (popped (channel_at s q p))))
@@ -268,7 +227,7 @@ taken_first s shape q p from to short m ms e =
           ∙ ap (λ (l : List Message). m ∷ l)
           (sym (ap (drop 1) e) ∙ pop_waiting (channel_at s q p) (shape.slots q p) (some_wait (channel_at s q p) m ms e) short
           ∙ ap waiting (sym (channel_same s shape q p from to (popped (channel_at s q p)))));
-      others = λ a b h. ap waiting (channel_apart s shape q p from to (popped (channel_at s q p)) a b h);
+      others = λ a b h. grind (arith, channel_apart);
     }
 
 -- Messages that are never sent: where p stops, an effect on some of the addressees is one on all of them. So what is proved of every
@@ -276,23 +235,10 @@ taken_first s shape q p from to short m ms e =
 never_sent : {s t : System} {left : ℕ → ℕ → List Message} {p : ℕ} {c : Change} {some to : ℕ} {m : Message} → ((b : ℕ) → has some b ≡ true → has to b ≡ true)
     → Effect s t left p c true some m
     → Effect s t left p c true to m
-never_sent inside f =
-    record {
-      shape = f.shape;
-      size = f.size;
-      actor = f.actor;
-      others = f.others;
-      told = f.told;
-      addressed = λ b h. inside b (f.addressed b h);
-      whole = λ e. true_is_not_false e;
-      channels = f.channels;
-      sent = f.sent;
-      silent = f.silent;
-      short = f.short;
-    }
+never_sent inside f = grind arith
 
 -- ---- any plan: the step is done where p may act, q is known, the plan is not refused and its message finds room
-pub record Carried (s t : System) (left : ℕ → ℕ → List Message) (p q : ℕ) (a : Plan) : Type 0 where
+pub record Carried (s t : System) (left : ℕ → ℕ → List Message) (p q : ℕ) (a : Planned) : Type 0 where
   pub acts : Acts s p
   pub partner : Known s q
   pub plain : a.refusal ≡ 0
@@ -300,7 +246,7 @@ pub record Carried (s t : System) (left : ℕ → ℕ → List Message) (p q : �
   pub effect : a.change.variables.crashed ≡ (variables_at s p).crashed → Effect s t left p a.change a.stops a.addressees a.message
 
 -- as the definition of a step says it
-abbrev Done : System → Scope → Plan → Outcome → Type 0
+abbrev Done : System → Scope → Planned → Outcome → Type 0
 Done s c a o = o.refusal ≡ 0 → Carried s o.system (waiting_at (taken_off s c)) c.actor.0 c.partner.0 a
 
 module _ (s : System) (valid : Valid s) where
@@ -320,7 +266,7 @@ module _ (s : System) (valid : Valid s) where
       (λ e. taken_ready s valid.shape c.partner.0 c.actor.0 (number _ from) (number _ to))
       (λ e. same_ready s valid.shape)
 
-  pub carried : (c : Scope) (a : Plan) → Done s c a (permitted s c a)
+  pub carried : (c : Scope) (a : Planned) → Done s c a (permitted s c a)
   unfolding permitted carried_out
   carried c a =
       let to = is_one_of s.n c.actor.0 in
@@ -348,7 +294,7 @@ module _ (s : System) (valid : Valid s) where
       (λ stranger z. absurd (omega arith))
 
 -- ---- any action, whose plan is a: whole, or cut
-pub record Performed (s t : System) (left : ℕ → ℕ → List Message) (p q : ℕ) (a : Plan) : Type 0 where
+pub record Performed (s t : System) (left : ℕ → ℕ → List Message) (p q : ℕ) (a : Planned) : Type 0 where
   pub acts : Acts s p
   pub partner : Known s q
   pub plain : a.refusal ≡ 0
@@ -360,26 +306,7 @@ pub record Performed (s t : System) (left : ℕ → ℕ → List Message) (p q :
   pub quiet : a.addressees ≡ 0 → a.change.variables.crashed ≡ (variables_at s p).crashed
       → Effect s t left p a.change a.stops a.addressees a.message
 
-pub performed : {s t : System} {left : ℕ → ℕ → List Message} {p q : ℕ} (cut : Cut) (a : Plan) → Carried s t left p q (cut_by cut a) → Performed s t left p q a
-unfolding cut_by cut_short
-performed Whole a =
-    λ k. record { acts = k.acts; partner = k.partner; plain = k.plain; trust = k.trust; stops = a.stops; effect = k.effect; quiet = λ none. k.effect }
-performed {s} {t} {left} {p} {q} (After n) a =
-    by_pick Of (eqb a.refusal 0) _ _
-    (λ plain.
-    by_pick Of (ltb n (count_of a.addressees)) _ _
-    (λ early k.
-    record {
-      acts = k.acts;
-      partner = k.partner;
-      plain = eqb-true a.refusal 0 plain;
-      trust = k.trust;
-      stops = true;
-      effect = λ calm. never_sent (first_has n a.addressees) (k.effect calm);
-      quiet = λ none. absurd (omega (arith, ltb-true n (count_of a.addressees) early, ap count_of none ∙ count_none));
-    })
-    (λ late k. absurd (omega (arith, k.plain))))
-    (λ refusal k. absurd (eqb-false a.refusal 0 refusal k.plain))
-  where
-    Of : Plan → Type 0
-    Of b = Carried s t left p q b → Performed s t left p q a
+pub performed : {s t : System} {left : ℕ → ℕ → List Message} {p q : ℕ} (cut : Cut) (a : Planned) → Carried s t left p q (cut_by cut a) → Performed s t left p q a
+unfolding cut_by cut_short pick
+performed Whole a = grind arith
+performed {s} {t} {left} {p} {q} (After n) a = grind (arith, never_sent, first_has, count_none)

@@ -4,6 +4,8 @@ use Prim.Native.Nat.{ℕ, ◌≤◌, ◌<◌, ◌+◌}
 use mathlib.Core.Path.{◌≡◌, refl}
 use mathlib.Core.Bool.{Bool, true, false, ◌||◌, not}
 use mathlib.Core.List.{List, [], ◌∷◌, ◌++◌}
+use native.Mathlib.Omega.{arith}
+use Rattle.std.specs.Prelude.{None, Some}
 use Rattle.view.specs.declared.ProcessId.{ProcessId}
 use Rattle.view.specs.declared.GroupIndex.{GroupIndex}
 use Rattle.view.specs.Logic.{put}
@@ -11,11 +13,10 @@ use Rattle.view.specs.View.{has, within, subset, with, least_of}
 use Rattle.channel.specs.declared.Message.{Message}
 use Rattle.channel.specs.declared.Message.TheVariants.{Propose, Retry, Acc, Commit}
 use Rattle.channel.specs.Channel.{waiting}
-use Rattle.system.specs.declared.Pending.TheVariants.{Nothing, Proposal}
 use Rattle.system.specs.declared.Variables.{Variables}
 use Rattle.system.specs.declared.Process.{Process}
 use Rattle.system.specs.declared.System.{System}
-use Rattle.system.specs.Process.{index, with_entry, pending_at, pending_slot}
+use Rattle.system.specs.Process.{index, with_entry, pending_at, proposal_of}
 use Rattle.system.specs.System.{process_at, variables_at, channel_at, may_trust}
 use Rattle.plan.specs.declared.Change.{Change}
 use Rattle.plan.specs.declared.Action.{Action}
@@ -61,7 +62,7 @@ afterwards x c stops =
             proposal = c.variables.proposal;
             acks = c.variables.acks;
           };
-      pending = put x.pending c.proposer.0 (pending_slot c.pending);
+      pending = put x.pending c.proposer.0 c.pending;
       history = with_entry x.history c.index.0 c.entry;
     }
 
@@ -142,7 +143,7 @@ pub record Records (s t : System) (q p : ProcessId) : Type 0 where
   pub taken : Taken s q.0 p.0 (Propose view index) left
   pub sound : SoundProposal s.n q.0 p.0 view index.0
   pub trust : SameTrust s t
-  pub effect : Effect s t left p.0 (recording (variables_at s p.0) q (Proposal view index)) false 0 no_message
+  pub effect : Effect s t left p.0 (recording (variables_at s p.0) q (Some (proposal_of view index))) false 0 no_message
 
 -- R_q?Retry, and PropOut = old ∧ p = min(v_p)
 pub record Reproposes (s t : System) (q p : ProcessId) : Type 0 where
@@ -229,13 +230,13 @@ pub record Accepts (s t : System) (p q : ProcessId) : Type 0 where
   pub partner : Known s q.0
   pub view : ℕ
   pub index : GroupIndex
-  pub recorded : pending_at (process_at s p.0) q.0 ≡ Proposal view index
+  pub recorded : pending_at (process_at s p.0) q.0 ≡ Some (proposal_of view index)
   pub sound : SoundProposal s.n q.0 p.0 view index.0
   pub same : view ≡ (variables_at s p.0).view
   pub free : (variables_at s p.0).next.0 ≤ index.0
   pub stops : Bool
   pub trust : SameTrust s t
-  pub effect : Effect s t (waiting_at s) p.0 (recording (with_next (variables_at s p.0) (index.0 + 1)) q Nothing) stops (with 0 q.0) (Acc index)
+  pub effect : Effect s t (waiting_at s) p.0 (recording (with_next (variables_at s p.0) (index.0 + 1)) q None) stops (with 0 q.0) (Acc index)
 
 -- Prop[q] ∧ (v[q] = v_p), and PropIn[q] < Next
 pub record Declines (s t : System) (p q : ProcessId) : Type 0 where
@@ -243,13 +244,13 @@ pub record Declines (s t : System) (p q : ProcessId) : Type 0 where
   pub partner : Known s q.0
   pub view : ℕ
   pub index : GroupIndex
-  pub recorded : pending_at (process_at s p.0) q.0 ≡ Proposal view index
+  pub recorded : pending_at (process_at s p.0) q.0 ≡ Some (proposal_of view index)
   pub sound : SoundProposal s.n q.0 p.0 view index.0
   pub same : view ≡ (variables_at s p.0).view
   pub late : index.0 < (variables_at s p.0).next.0
   pub stops : Bool
   pub trust : SameTrust s t
-  pub effect : Effect s t (waiting_at s) p.0 (recording (variables_at s p.0) q Nothing) stops (with 0 q.0) (Retry index (variables_at s p.0).next)
+  pub effect : Effect s t (waiting_at s) p.0 (recording (variables_at s p.0) q None) stops (with 0 q.0) (Retry index (variables_at s p.0).next)
 
 -- the process stops
 pub record Crashes (s t : System) (p : ProcessId) : Type 0 where
@@ -284,8 +285,7 @@ pub record Outline (s t : System) (p : ℕ) : Type 0 where
 outlined : {s t : System} {p : ℕ} {left : ℕ → ℕ → List Message} {c : Change} {stops : Bool} {to : ℕ} {m : Message} → Acts s p → Effect s t left p c stops to m
     → c.variables.crashed ≡ (variables_at s p).crashed
     → Outline s t p
-outlined {left} {c} {stops} {to} {m} acts effect calm =
-    record { acts = acts; left = left; change = c; stops = stops; to = to; message = m; effect = effect; calm = calm }
+outlined {left} {c} {stops} {to} {m} acts effect calm = grind arith
 
 pub outline : {s t : System} {o : Action} → Transition s t o → Outline s t (scope_of o).actor.0
 unfolding scope_of

@@ -2,19 +2,18 @@
 use Prim.Native.Nat.{ℕ, ◌≤◌}
 use mathlib.Core.Path.{◌≡◌, sym, subst}
 use mathlib.Core.Bool.{Bool, true, false}
-use mathlib.Core.List.{List, ◌∷◌}
+use mathlib.Core.List.{List}
+use native.Mathlib.Omega.{arith}
+use Rattle.std.specs.Prelude.{None}
 use Rattle.view.specs.View.{has}
-use Rattle.view.proofs.Laws.{Each, each_end, by_number, each_put}
+use Rattle.view.proofs.Laws.{Each, each_end, each_put}
 use Rattle.channel.specs.declared.Message.{Message}
-use Rattle.system.specs.declared.Pending.{Pending}
-use Rattle.system.specs.declared.Pending.TheVariants.{Nothing}
-use Rattle.system.specs.declared.PendingSlot.{PendingSlot}
 use Rattle.system.specs.declared.Process.{Process}
 use Rattle.system.specs.declared.System.{System}
-use Rattle.system.specs.Process.{entry_at, with_entry, pending_at, pending_slot}
+use Rattle.system.specs.Process.{entry_at, with_entry, pending_at, Pending}
 use Rattle.system.specs.System.{process_at, variables_at}
 use Rattle.plan.specs.declared.Change.{Change}
-use Rattle.step.proofs.Cases.{waiting_at, Taken, afterwards, stays, grows, empties, Effect}
+use Rattle.step.proofs.Cases.{waiting_at, Taken, afterwards, Effect}
 
 -- ---- what is left of the messages
 -- those left were all there
@@ -25,29 +24,14 @@ pub all_left : (s : System) → Part s (waiting_at s)
 all_left s P a b e = e
 
 pub taken_left : {s : System} {q p : ℕ} {m : Message} {left : ℕ → ℕ → List Message} → Taken s q p m left → Part s left
-taken_left {s} {q} {p} {m} {left} k P a b e =
-    by_number a q
-    (λ x.
-    by_number b p
-    (λ y.
-    subst (λ (i : ℕ). Each P (left i b)) (sym x)
-    (subst (λ (j : ℕ). Each P (left q j)) (sym y)
-    (rest (subst (Each P) k.first (subst (λ (i : ℕ). Each P (waiting_at s i p)) x (subst (λ (j : ℕ). Each P (waiting_at s a j)) y e))))))
-    (λ h. subst (Each P) (sym (k.others a b (λ z. h z.1))) e))
-    (λ h. subst (Each P) (sym (k.others a b (λ z. h z.0))) e)
-  where
-    rest : Each P (m ∷ left q p) → Each P (left q p)
-    rest z = z.1
+taken_left {s} {q} {p} {m} {left} k P a b e = grind arith
 
 module _ {s t : System} {left : ℕ → ℕ → List Message} {p : ℕ} {c : Change} {stops : Bool} {to : ℕ} {m : Message} (f : Effect s t left p c stops to m) where
   -- ---- each process: the one that acted, and the others as they were
   pub each_process_but : (P : ℕ → Process → Type 0) → P p (afterwards (process_at s p) c stops) → ((k : ℕ) → (k ≡ p → ⊥) → P k (process_at s k))
       → (k : ℕ)
       → P k (process_at t k)
-  each_process_but P new old k =
-      by_number k p
-      (λ e. subst (λ (j : ℕ). P j (process_at t j)) (sym e) (subst (P p) (sym f.actor) new))
-      (λ h. subst (P k) (sym (f.others k h)) (old k h))
+  each_process_but P new old k = grind arith
 
   pub each_process : (P : ℕ → Process → Type 0) → P p (afterwards (process_at s p) c stops) → ((k : ℕ) → P k (process_at s k)) → (k : ℕ) → P k (process_at t k)
   each_process P new old = each_process_but P new (λ k h. old k)
@@ -55,12 +39,7 @@ module _ {s t : System} {left : ℕ → ℕ → List Message} {p : ℕ} {c : Cha
   -- ---- each message: those left, and m to those whom it is for
   pub each_on : (P : Message → Type 0) (a b : ℕ) → Each P (left a b) → (a ≡ p → has to b ≡ true → (variables_at s b).crashed ≡ false → P m)
       → Each P (waiting_at t a b)
-  each_on P a b old new =
-      elim (f.channels a b) [
-        | stays e ↦ subst (Each P) (sym e) old
-        | grows e told live g ↦ subst (Each P) (sym g) (each_end P (left a b) m old (new e (f.addressed b told) live))
-        | empties e stop g ↦ subst (Each P) (sym g) tt
-      ]
+  each_on P a b old new = grind (arith, each_end)
 
   pub each_message : (R : ℕ → ℕ → Message → Type 0) → ((a b : ℕ) → Each (R a b) (left a b))
       → ((b : ℕ) → has to b ≡ true → (variables_at s b).crashed ≡ false → R p b m)
@@ -75,7 +54,7 @@ pub each_pending : (P : ℕ → Pending → Type 0) (x : Process) (c : Change) (
     → P j (pending_at (afterwards x c stops) j)
 unfolding afterwards pending_at
 each_pending P x c stops new old =
-    each_put (λ j (y : PendingSlot). P j y.pending) x.pending c.proposer.0 (pending_slot c.pending) (pending_slot Nothing) (λ l h. new l) old
+    each_put P x.pending c.proposer.0 c.pending None (λ l h. new l) old
 
 pub each_entry : (P : ℕ → ℕ → Type 0) (x : Process) (c : Change) (stops : Bool) → (1 ≤ c.index.0 → P c.index.0 c.entry)
     → ((i : ℕ) → P i (entry_at x.history i))

@@ -1,14 +1,13 @@
 -- What is so of each process and of each channel after one of them is replaced, and that a system keeps its shape: its arrays have
 -- the lengths that the program's types say.
 use Prim.Native.Nat.{ℕ, ◌≤◌}
-use mathlib.Core.Path.{◌≡◌, refl, sym, ◌∙◌, subst}
+use mathlib.Core.Path.{◌≡◌, refl, ◌∙◌}
 use mathlib.Core.Bool.{true, ◌&&◌}
 use native.Mathlib.Omega.{arith}
 use lib.ListN.{length}
 use Rattle.view.specs.Logic.{is_one_of}
-use Rattle.view.proofs.Laws.{and_left, and_right, and_intro, one_of, is_one_of_lem, at_put_same, at_put_other, length-put, by_number}
+use Rattle.view.proofs.Laws.{at_put_same, at_put_other, length-put}
 use Rattle.channel.specs.declared.Channel.{Channel}
-use Rattle.channel.specs.Channel.{empty_channel}
 use Rattle.system.specs.declared.Process.{Process}
 use Rattle.system.specs.declared.System.{System}
 use Rattle.system.specs.System.{no_process, process_at, with_process, channel_number, channel_at, with_channel}
@@ -35,7 +34,7 @@ pub record Numbered (p : ℕ) : Type 0 where
 module _ (s : System) (shape : Shape s) (p : ℕ) (number : Numbered p) (x : Process) where
   pub process_same : process_at (with_process s p x) p ≡ x
   unfolding process_at with_process
-  process_same = at_put_same s.processes p x no_process number.low (omega (arith, number.high, shape.processes))
+  process_same = grind (arith, at_put_same)
 
   pub process_other : (k : ℕ) → (k ≡ p → ⊥) → process_at (with_process s p x) k ≡ process_at s k
   unfolding process_at with_process
@@ -43,49 +42,30 @@ module _ (s : System) (shape : Shape s) (p : ℕ) (number : Numbered p) (x : Pro
 
   -- of each process: of the new one, and of the others as before
   each_of : (P : Process → Type 0) → P x → ((k : ℕ) → P (process_at s k)) → (k : ℕ) → P (process_at (with_process s p x) k)
-  each_of P new old k =
-      by_number k p
-      (λ e. subst (λ (j : ℕ). P (process_at (with_process s p x) j)) (sym e) (subst P (sym process_same) new))
-      (λ h. subst P (sym (process_other k h)) (old k))
+  each_of P new old k = grind (arith, process_same, process_other)
 
 module _ (s : System) (shape : Shape s) (q p : ℕ) (from : Numbered q) (to : Numbered p) (c : Channel) where
   both : (is_one_of 8 q && is_one_of 8 p) ≡ true
-  both = and_intro (is_one_of_lem 8 q from.low from.high) (is_one_of_lem 8 p to.low to.high)
+  both = grind arith
 
   pub channel_same : channel_at (with_channel s q p c) q p ≡ c
   unfolding channel_at with_channel
-  channel_same =
-      at_put_same s.channels (channel_number q p) c empty_channel
-      (omega (arith, number_in q p both, to.low))
-      (omega (arith, number_in q p both, to.high, from.high, shape.channels))
+  channel_same = grind (arith, at_put_same, number_in)
 
   channel_other : (a b : ℕ) → (channel_number a b ≡ channel_number q p → ⊥) → channel_at (with_channel s q p c) a b ≡ channel_at s a b
   unfolding channel_at with_channel
-  channel_other a b h = at_put_other s.channels (channel_number q p) (channel_number a b) c empty_channel h
+  channel_other a b h = grind (arith, at_put_other)
 
   -- a channel of that number runs between the same two processes
   same_ends : (a b : ℕ) → channel_number a b ≡ channel_number q p → (a ≡ q) × (b ≡ p)
-  same_ends a b e =
-      let named = number_found a b (omega (arith, e, number_in q p both, to.low)) in
-      let x = one_of 8 a (and_left (is_one_of 8 a) (is_one_of 8 b) named) in
-      let y = one_of 8 b (and_right (is_one_of 8 a) (is_one_of 8 b) named) in
-      let z = number_in a b named in
-      let w = number_in q p both in (
-        omega (arith, e, z, w, from.low, from.high, to.low, to.high),
-        omega (arith, e, z, w, from.low, from.high, to.low, to.high),
-      )
+  same_ends a b e = grind (arith, number_found, number_in, both)
 
   pub channel_apart : (a b : ℕ) → ((a ≡ q) × (b ≡ p) → ⊥) → channel_at (with_channel s q p c) a b ≡ channel_at s a b
   channel_apart a b h = channel_other a b (λ e. h (same_ends a b e))
 
   -- of each channel: of the new one, and of the others as before
   pub each_channel : (P : ℕ → ℕ → Channel → Type 0) → P q p c → ((a b : ℕ) → P a b (channel_at s a b)) → (a b : ℕ) → P a b (channel_at (with_channel s q p c) a b)
-  each_channel P new old a b =
-      by_number (channel_number a b) (channel_number q p)
-      (λ e.
-      subst (λ (i : ℕ). P i b (channel_at (with_channel s q p c) i b)) (sym (same_ends a b e).0)
-      (subst (λ (j : ℕ). P q j (channel_at (with_channel s q p c) q j)) (sym (same_ends a b e).1) (subst (P q p) (sym channel_same) new)))
-      (λ h. subst (P a b) (sym (channel_other a b h)) (old a b))
+  each_channel P new old a b = grind (arith, same_ends, channel_same, channel_other)
 
   long_channels : length (with_channel s q p c).channels ≡ 64
   unfolding with_channel

@@ -3,34 +3,32 @@ use Prim.Native.Nat.{ℕ, ◌≤◌, ◌<◌}
 use mathlib.Core.Path.{◌≡◌, refl, sym, ◌∙◌, subst}
 use mathlib.Core.Bool.{true, not, ◌&&◌}
 use mathlib.Core.List.{List, [], ◌∷◌}
-use mathlib.Core.Logic.{◌⊎◌, inl, inr, ⊎_elim}
+use mathlib.Core.Logic.{◌⊎◌}
 use native.Mathlib.Omega.{arith}
 use borrow.Author.Tests.{ltb-true, eqb-true, eqb-false, eq-eqb, ne_eqb, ltb-false, leb-true, not-true}
 use lib.Dec.{leb, ltb, eqb}
+use Rattle.std.specs.Prelude.{None, Some}
+use Rattle.std.proofs.lemmas.Bool.Decides.{nat_tests}
 use Rattle.view.specs.declared.ProcessId.{ProcessId}
 use Rattle.view.specs.declared.GroupIndex.{GroupIndex}
-use Rattle.view.specs.Logic.{pick, each_up_to, is_one_of}
-use Rattle.view.specs.View.{has, within, subset, with, minus, everyone, least_of}
-use Rattle.view.proofs.Laws.{by_pick, by_number, true_is_not_false, and_left, and_right, and_intro, Each}
+use Rattle.view.specs.Logic.{pick, each_up_to}
+use Rattle.view.specs.View.{has, subset, with, minus, everyone, least_of}
+use Rattle.view.proofs.Laws.{by_pick, true_is_not_false, and_left, and_right, and_intro, Each}
 use Rattle.channel.specs.declared.Message.{Message}
 use Rattle.channel.specs.declared.Message.TheVariants.{Propose, Retry, Acc, Commit}
 use Rattle.channel.specs.Channel.{popped, front_of}
 use Rattle.system.specs.declared.System.{System}
-use Rattle.system.specs.declared.Pending.{Pending}
-use Rattle.system.specs.declared.Pending.TheVariants.{Nothing, Proposal}
 use Rattle.system.specs.declared.Variables.{Variables}
-use Rattle.system.specs.declared.Outcome.{Outcome}
-use Rattle.system.specs.Process.{pending_at}
-use Rattle.system.specs.System.{process_at, variables_at, channel_at, with_channel, trust_at, room_for, done, refused}
+use Rattle.system.specs.Outcome.{Outcome, done, refused}
+use Rattle.system.specs.Process.{pending_at, Pending, proposal_of}
+use Rattle.system.specs.System.{process_at, variables_at, channel_at, with_channel, trust_at}
 use Rattle.sound.specs.Sound.{sound_message, sound_pending, sound_system}
-use Rattle.plan.specs.declared.Plan.{Plan}
 use Rattle.plan.specs.declared.Action.{Action}
 use Rattle.plan.specs.declared.Action.TheVariants.{Report, Receive, Respond, Crash}
 use Rattle.plan.specs.declared.Step.{Step}
-use Rattle.plan.specs.Plan.{new_view_plan, report_plan, committing_plan, message_plan, receive_plan, respond_plan}
+use Rattle.plan.specs.Plan.{new_view_plan, report_plan, committing_plan, message_plan, receive_plan, respond_plan, Planned}
 use Rattle.plan.specs.Fields.{with_acks}
 use Rattle.step.specs.Scope.{scope_of}
-use Rattle.plan.specs.Cut.{cut_by}
 use Rattle.step.specs.Step.{plan_of, taken_off, suspected_if_named, carried_out, permitted, attempted, stepped}
 use Rattle.step.proofs.Cases.{waiting_at, Known, Taken, Doubts, Marking, present, stale, Transition, proposes, follows, records, reproposes, ignores, marks, commits, enters, accepts, declines, crashes}
 use Rattle.step.proofs.Soundness.{SoundProposal, SoundProcess, Valid, proposal_facts, retry_facts, acc_facts}
@@ -39,63 +37,26 @@ use Rattle.step.proofs.Carried.{sound, number, taken_first, carried, Performed, 
 
 -- ---- each plan
 -- a plan that is refused was not carried out
-never : {C : Type 0} {s t : System} {left : ℕ → ℕ → List Message} {p q : ℕ} {a : Plan} → Performed s t left p q a → 0 < a.refusal → C
+never : {C : Type 0} {s t : System} {left : ℕ → ℕ → List Message} {p q : ℕ} {a : Planned} → Performed s t left p q a → 0 < a.refusal → C
 never k h = absurd (omega (arith, k.plain))
 
 module _ (s : System) (valid : Valid s) (t : System) where
-  abbrev Case : (ℕ → ℕ → List Message) → ℕ → ℕ → Action → Plan → Type 0
+  abbrev Case : (ℕ → ℕ → List Message) → ℕ → ℕ → Action → Planned → Type 0
   Case left p q o a = Performed s t left p q a → Transition s t o
 
   own : (p : ℕ) → Known s p → SoundProcess s.n p (process_at s p)
   own p k = (sound s valid).process p k.low k.high
 
   report-doubts : (p v : ℕ) → Known s p → has v p ≡ true → t.trust ≡ each_up_to 8 (suspected_if_named s p (minus (everyone s.n) v)) s.trust → Doubts s t p v
-  report-doubts p v known own-named e = doubts s t valid.shape p v known (sound s valid).high (own p known).variables.view_inside own-named e
+  report-doubts p v known own-named e = grind (arith, doubts, sound)
 
   report_cases : (p : ProcessId) (v : ℕ) → Case (waiting_at s) p.0 p.0 (Report p v)
       (report_plan s.n p.0 v (variables_at s p.0) (trust_at s p.0))
-  unfolding report_plan new_view_plan
-  report_cases p v =
-      let x = variables_at s p.0 in
-      let C = Case (waiting_at s) p.0 p.0 (Report p v) in
-      by_pick C (within s.n v && has v p.0) _ _
-      (λ named.
-      let own-named = and_right (within s.n v) (has v p.0) named in
-      by_pick C (subset (minus v x.view) (trust_at s p.0)) _ _
-      (λ may.
-      by_pick C (eqb (least_of v).0 p.0) _ _
-      (λ least.
-      by_pick C (ltb x.propout.0 32) _ _
-      (λ below k.
-      proposes
-      (record {
-        acts = k.acts;
-        inside = and_left (within s.n v) (has v p.0) named;
-        own = own-named;
-        trusted = brought_back s p.0 v may;
-        doubts = report-doubts p.0 v k.acts.known own-named k.trust;
-        least = eqb-true (least_of v).0 p.0 least;
-        below = ltb-true x.propout.0 32 below;
-        stops = k.stops;
-        effect = k.effect refl;
-      }))
-      (λ last k. never k (omega arith)))
-      (λ other k.
-      follows
-      (record {
-        acts = k.acts;
-        inside = and_left (within s.n v) (has v p.0) named;
-        own = own-named;
-        trusted = brought_back s p.0 v may;
-        doubts = report-doubts p.0 v k.acts.known own-named k.trust;
-        other = eqb-false (least_of v).0 p.0 other;
-        effect = k.quiet refl refl;
-      })))
-      (λ early k. never k (omega arith)))
-      (λ odd k. never k (omega arith))
+  unfolding report_plan new_view_plan pick
+  report_cases p v = grind (arith, nat_tests, proposes, brought_back, report-doubts, follows)
 
   -- what process p has recorded from process q is sound
-  recorded_proposal : (p q : ProcessId) (v : ℕ) (i : GroupIndex) → pending_at (process_at s p.0) q.0 ≡ Proposal v i → Known s p.0 → Known s q.0
+  recorded_proposal : (p q : ProcessId) (v : ℕ) (i : GroupIndex) → pending_at (process_at s p.0) q.0 ≡ Some (proposal_of v i) → Known s p.0 → Known s q.0
       → SoundProposal s.n q.0 p.0 v i.0
   unfolding sound_pending
   recorded_proposal p q v i e a b =
@@ -105,8 +66,10 @@ module _ (s : System) (valid : Valid s) (t : System) where
   respond_cases : (p q : ProcessId) (y : Pending) → pending_at (process_at s p.0) q.0 ≡ y
       → Case (waiting_at s) p.0 q.0 (Respond p q) (respond_plan q (variables_at s p.0) y)
   unfolding respond_plan
-  respond_cases p q Nothing e = λ k. never k (omega arith)
-  respond_cases p q (Proposal v i) e =
+  respond_cases p q None e = λ k. never k (omega arith)
+  respond_cases p q (Some r) e =
+      let v = r.view in
+      let i = r.index in
       let x = variables_at s p.0 in
       let C = Case (waiting_at s) p.0 q.0 (Respond p q) in
       by_pick C (eqb v x.view) _ _
@@ -149,7 +112,7 @@ module _ (s : System) (valid : Valid s) (t : System) where
 
   -- v* is not empty, so that it names its own process
   was_proposed : (p : ℕ) → Known s p → ((variables_at s p).proposal ≡ 0 → ⊥) → has (variables_at s p).proposal p ≡ true
-  was_proposed p k some = (own p k).variables.own_proposed (λ one. some ((own p k).variables.none_proposed one))
+  was_proposed p k some = grind (arith, own)
 
   module _ (q p : ProcessId) (left : ℕ → ℕ → List Message) where
     -- an Acc, once ack is known
@@ -291,7 +254,7 @@ module _ (s : System) (valid : Valid s) (t : System) where
   cases (Report p v) k = report_cases p v k
   cases (Receive q p) k = receive_cases q p (waiting_at s q.0 p.0) refl k
   cases (Respond p q) k = respond_cases p q (pending_at (process_at s p.0) q.0) refl k
-  cases (Crash p) k = crashes (record { acts = k.acts; trust = same_trust s t p.0 k.trust; effect = k.quiet refl refl })
+  cases (Crash p) k = grind (arith, crashes, same_trust)
 
 -- ---- the step
 -- on a sound system the step is what is attempted
@@ -302,37 +265,15 @@ sound_stepped s o e = rw e
 -- a step done on a valid system is one of the transitions
 pub transition : (s : System) (o : Step) → Valid s → (stepped s o).refusal ≡ 0 → Transition s (stepped s o).system o.action
 unfolding attempted
-transition s o valid =
-    subst (λ (a : Outcome). a.refusal ≡ 0 → Transition s a.system o.action) (sym (sound_stepped s o valid.sound))
-    (λ e.
-    cases s valid (attempted s o).system o.action
-    (performed o.cut (plan_of s o.action) (carried s valid (scope_of o.action) (cut_by o.cut (plan_of s o.action)) e)))
+transition s o valid = grind (arith, sound_stepped, cases, performed, carried)
 
 -- a step is done, or it is refused: then the system comes back as it was
 pub done_or_refused : (s : System) (o : Step) → ((stepped s o).refusal ≡ 0) ⊎ (stepped s o ≡ refused (stepped s o).refusal s)
-unfolding stepped attempted permitted carried_out
-done_or_refused s o =
-    let P : Outcome → Type 0 = λ (a : Outcome). (a.refusal ≡ 0) ⊎ (a ≡ refused a.refusal s) in
-    let c = scope_of o.action in
-    let a = cut_by o.cut (plan_of s o.action) in
-    by_pick P (sound_system s) _ _
-    (λ w.
-    by_pick P (is_one_of s.n c.actor.0 && is_one_of s.n c.partner.0) _ _
-    (λ x.
-    by_pick P (variables_at s c.actor.0).crashed _ _
-    (λ y. inr refl)
-    (λ y.
-    by_pick P (eqb a.refusal 0) _ _
-    (λ z. by_pick P (room_for (taken_off s c) c.actor.0 a.addressees) _ _ (λ r. inl refl) (λ r. inr refl))
-    (λ z. inr refl)))
-    (λ x. inr refl))
-    (λ w. inr refl)
+unfolding stepped attempted permitted carried_out pick
+done_or_refused s o = grind arith
 
 -- so: what is so of the system after each transition, and of each refusal, is so of the outcome
 pub by_outcome : (P : Outcome → Type 0) (s : System) (o : Step) → Valid s → ((t : System) → Transition s t o.action → P (done t))
     → ((k : ℕ) → (k ≡ 0 → ⊥) → P (refused k s))
     → P (stepped s o)
-by_outcome P s o valid did not_done =
-    by_number (stepped s o).refusal 0
-    (λ e. subst (λ (k : ℕ). P (refused k (stepped s o).system)) (sym e) (did (stepped s o).system (transition s o valid e)))
-    (λ n. ⊎_elim (λ e. absurd (n e)) (λ same. subst P (sym same) (not_done (stepped s o).refusal n)) (done_or_refused s o))
+by_outcome P s o valid did not_done = grind (arith, transition, done_or_refused)

@@ -1,56 +1,54 @@
 -- What every step answers: "the number 0 and the next table; or a refusal number and the same table back"; the number 1 only where the
 -- system is not sound; and a process that has stopped has stopped for good.
 use Prim.Native.Nat.{ℕ}
-use mathlib.Core.Path.{◌≡◌, refl, sym, ◌∙◌, ap, subst}
-use mathlib.Core.Bool.{Bool, true, false, ◌&&◌, ◌||◌, not}
+use mathlib.Core.Path.{◌≡◌, refl, sym, ◌∙◌, ap}
+use mathlib.Core.Bool.{Bool, true, false, ◌||◌}
 use mathlib.Core.List.{List, [], ◌∷◌, ◌++◌}
-use mathlib.Core.Logic.{◌⊎◌, inl, inr, ⊎_elim}
-use borrow.Author.Tests.{le-leb}
-use lib.Dec.{leb, ltb, eqb}
+use mathlib.Core.Logic.{◌⊎◌}
+use native.Mathlib.Omega.{arith}
+use lib.Dec.{eqb}
+use Rattle.std.specs.Prelude.{None, Some}
+use Rattle.std.proofs.lemmas.Bool.Decides.{nat_tests}
 use Rattle.view.specs.declared.ProcessId.{ProcessId}
 use Rattle.view.specs.Logic.{pick, is_one_of}
-use Rattle.view.specs.View.{has, within, subset, minus, least_of, count_of}
-use Rattle.view.proofs.Laws.{by_pick, each_keeps, one_of, and_left, and_right, or_right, true_is_not_false}
+use Rattle.view.specs.View.{has}
+use Rattle.view.proofs.Laws.{by_pick, each_keeps, true_is_not_false}
 use Rattle.channel.specs.declared.Message.{Message}
 use Rattle.channel.specs.declared.Message.TheVariants.{Propose, Retry, Acc, Commit}
-use Rattle.channel.specs.Channel.{front_of, waiting}
+use Rattle.channel.specs.Channel.{front_of}
 use Rattle.tallies.specs.Tally.{plus}
 use Rattle.tallies.proofs.Laws.{none_plus, plus-plus}
-use Rattle.system.specs.declared.Pending.{Pending}
-use Rattle.system.specs.declared.Pending.TheVariants.{Nothing, Proposal}
 use Rattle.system.specs.declared.Variables.{Variables}
-use Rattle.system.specs.declared.Process.{Process}
 use Rattle.system.specs.declared.System.{System}
-use Rattle.system.specs.declared.Outcome.{Outcome}
-use Rattle.system.specs.Process.{pending_at}
-use Rattle.system.specs.System.{process_at, variables_at, with_process, channel_at, with_channel, trust_at, with_trust, sent, sent_if_named, broadcasted, room_for, refused}
+use Rattle.system.specs.Outcome.{Outcome, refused}
+use Rattle.system.specs.Process.{Pending}
+use Rattle.system.specs.System.{variables_at, with_process, with_channel, trust_at, with_trust, sent, sent_if_named, broadcasted}
 use Rattle.sound.specs.Sound.{sound_pending, sound_system}
-use Rattle.plan.specs.declared.Plan.{Plan}
 use Rattle.plan.specs.declared.Scope.{Scope}
 use Rattle.plan.specs.declared.Action.{Action}
 use Rattle.plan.specs.declared.Action.TheVariants.{Report, Receive, Respond, Crash}
 use Rattle.plan.specs.declared.Cut.{Cut}
 use Rattle.plan.specs.declared.Cut.TheVariants.{Whole, After}
 use Rattle.plan.specs.declared.Step.{Step}
-use Rattle.plan.specs.Plan.{new_view_plan, report_plan, committing_plan, message_plan, receive_plan, respond_plan}
+use Rattle.plan.specs.Plan.{new_view_plan, report_plan, committing_plan, message_plan, receive_plan, respond_plan, Planned}
 use Rattle.step.specs.Scope.{scope_of}
 use Rattle.plan.specs.Cut.{cut_short, cut_by}
 use Rattle.step.specs.Counts.{event_tally, events_tally}
 use Rattle.step.specs.Step.{plan_of, taken_off, doubted, changed_at, emptied_from, crashed_at, crashed_if, effected, permitted, carried_out, attempted, stepped, Event, does, happened, ran}
 use Rattle.step.proofs.Soundness.{Sound, Valid, sound_facts, proposal_facts}
-use Rattle.step.proofs.Cases.{Transition, outline}
+use Rattle.step.proofs.Cases.{Transition}
 use Rattle.step.proofs.Inversion.{sound_stepped, done_or_refused, by_outcome}
 use Rattle.step.proofs.SoundSteps.{event_valid}
 
 -- demand 1, of every system and every step: 0, or the same system
 pub zero_or_same : (s : System) (o : Step) → ((stepped s o).refusal ≡ 0) ⊎ ((stepped s o).system ≡ s)
-zero_or_same s o = ⊎_elim inl (λ same. inr (ap (λ (a : Outcome). a.system) same)) (done_or_refused s o)
+zero_or_same s o = grind (arith, done_or_refused)
 
 -- ---- the number of processes stays
 abbrev pub Sized : ℕ → System → Type 0
 Sized n s = s.n ≡ n
 
-pub effected_size : (n : ℕ) (t : System) (p : ℕ) (a : Plan) → Sized n t → Sized n (effected t p a)
+pub effected_size : (n : ℕ) (t : System) (p : ℕ) (a : Planned) → Sized n t → Sized n (effected t p a)
 unfolding effected doubted with_trust changed_at crashed_if crashed_at emptied_from broadcasted sent_if_named sent with_process with_channel
 effected_size n t p a e =
     let told =
@@ -60,26 +58,8 @@ effected_size n t p a e =
     by_pick (Sized n) a.stops _ _ (λ b. each_keeps (Sized n) 8 (emptied_from p) (λ k l u x h. h) _ told) (λ b. told)
 
 pub size_kept : (s : System) (o : Step) → (stepped s o).system.n ≡ s.n
-unfolding stepped attempted permitted carried_out taken_off with_channel
-size_kept s o =
-    let c = scope_of o.action in
-    let a = cut_by o.cut (plan_of s o.action) in
-    let Kept : Outcome → Type 0 = λ x. Sized s.n x.system in
-    by_pick Kept (sound_system s) _ _
-    (λ e.
-    by_pick Kept (is_one_of s.n c.actor.0 && is_one_of s.n c.partner.0) _ _
-    (λ f.
-    by_pick Kept (variables_at s c.actor.0).crashed _ _
-    (λ g. refl)
-    (λ g.
-    by_pick Kept (eqb a.refusal 0) _ _
-    (λ h.
-    by_pick Kept (room_for (taken_off s c) c.actor.0 a.addressees) _ _
-    (λ i. effected_size s.n (taken_off s c) c.actor.0 a (by_pick (Sized s.n) c.takes _ _ (λ j. refl) (λ j. refl)))
-    (λ i. refl))
-    (λ h. refl)))
-    (λ f. refl))
-    (λ e. refl)
+unfolding stepped attempted permitted carried_out taken_off with_channel pick
+size_kept s o = grind (arith, effected_size)
 
 -- ---- every number is one of the table's, and 1 is given for no sound system
 -- the number stands in the list
@@ -95,92 +75,53 @@ sound_answers = 0 ∷ 2 ∷ 3 ∷ 4 ∷ 5 ∷ 6 ∷ 7 ∷ 10 ∷ 11 ∷ 12 ∷ 1
 abbrev pub answers : List ℕ
 answers = 1 ∷ sound_answers
 
-abbrev Told : Plan → Type 0
+abbrev Told : Planned → Type 0
 Told a = among sound_answers a.refusal ≡ true
 
 report-told : (n p v : ℕ) (x : Variables) (trust : ℕ) → Told (report_plan n p v x trust)
-unfolding among report_plan new_view_plan
-report-told n p v x trust =
-    by_pick Told (within n v && has v p) _ _
-    (λ a.
-    by_pick Told (subset (minus v x.view) trust) _ _
-    (λ b.
-    by_pick Told (eqb (least_of v).0 p) _ _
-    (λ c. by_pick Told (ltb x.propout.0 32) _ _ (λ d. refl) (λ d. refl))
-    (λ c. refl))
-    (λ b. refl))
-    (λ a. refl)
+unfolding among report_plan new_view_plan pick
+report-told n p v x trust = grind arith
 
 committing_told : (x : Variables) → Told (committing_plan x)
-unfolding among committing_plan
-committing_told x = by_pick Told (not (eqb x.proposal 0) && subset x.proposal x.acks) _ _ (λ a. refl) (λ a. refl)
+unfolding among committing_plan pick
+committing_told x = grind arith
 
 receive-told : (q : ProcessId) (p : ℕ) (x : Variables) (ms : List Message) → Told (receive_plan q p x (front_of ms))
-unfolding among receive_plan message_plan
+unfolding among receive_plan message_plan pick
 receive-told q p x [] = refl
 receive-told q p x (Propose v i ∷ ms) = refl
-receive-told q p x (Retry old new ∷ ms) =
-    by_pick Told (eqb x.propout.0 old.0 && eqb (least_of x.view).0 p) _ _
-    (λ a. by_pick Told (leb new.0 32) _ _ (λ b. refl) (λ b. refl))
-    (λ a. refl)
+receive-told q p x (Retry old new ∷ ms) = grind arith
 receive-told q p x (Acc i ∷ ms) = committing_told _
 receive-told q p x (Commit v i ∷ ms) = refl
 
 respond-told : (n p : ℕ) (q : ProcessId) (x : Variables) (y : Pending) → sound_pending n q.0 p y ≡ true → Told (respond_plan q x y)
-unfolding among respond_plan sound_pending
-respond-told n p q x Nothing sound = refl
-respond-told n p q x (Proposal v i) sound =
-    by_pick Told (eqb v x.view) _ _
-    (λ a.
-    by_pick Told (ltb i.0 x.next.0) _ _
-    (λ b. refl)
-    (λ b.
-    by_pick Told (leb i.0 32) _ _
-    (λ c. refl)
-    (λ c. true_is_not_false (sym (le-leb i.0 32 (proposal_facts n q.0 p v i.0 sound).high) ∙ c))))
-    (λ a. refl)
+unfolding among respond_plan sound_pending pick
+respond-told n p q x None sound = refl
+respond-told n p q x (Some r) sound = grind (arith, proposal_facts)
 
-cut_told : (cut : Cut) (a : Plan) → Told a → Told (cut_by cut a)
-unfolding among cut_by cut_short
+cut_told : (cut : Cut) (a : Planned) → Told a → Told (cut_by cut a)
+unfolding among cut_by cut_short pick
 cut_told Whole a h = h
-cut_told (After k) a h =
-    by_pick Told (eqb a.refusal 0) _ _
-    (λ b. by_pick Told (ltb k (count_of a.addressees)) _ _ (λ c. refl) (λ c. refl))
-    (λ b. h)
+cut_told (After k) a h = grind arith
 
 abbrev Answer : Outcome → Type 0
 Answer o = among sound_answers o.refusal ≡ true
 
-permitted-told : (s : System) (c : Scope) (a : Plan) → (is_one_of s.n c.actor.0 ≡ true → is_one_of s.n c.partner.0 ≡ true → Told a)
+permitted-told : (s : System) (c : Scope) (a : Planned) → (is_one_of s.n c.actor.0 ≡ true → is_one_of s.n c.partner.0 ≡ true → Told a)
     → Answer (permitted s c a)
-unfolding among permitted carried_out
-permitted-told s c a h =
-    let to = is_one_of s.n c.actor.0 in
-    let from = is_one_of s.n c.partner.0 in
-    by_pick Answer (to && from) _ _
-    (λ w.
-    by_pick Answer (variables_at s c.actor.0).crashed _ _
-    (λ x. refl)
-    (λ x.
-    by_pick Answer (eqb a.refusal 0) _ _
-    (λ y. by_pick Answer (room_for (taken_off s c) c.actor.0 a.addressees) _ _ (λ z. refl) (λ z. refl))
-    (λ y. h (and_left to from w) (and_right to from w))))
-    (λ w. refl)
+unfolding among permitted carried_out pick
+permitted-told s c a h = grind (arith, nat_tests)
 
 plan-told : (s : System) → Sound s → (o : Action) → is_one_of s.n (scope_of o).actor.0 ≡ true → is_one_of s.n (scope_of o).partner.0 ≡ true → Told (plan_of s o)
 unfolding among plan_of scope_of
 plan-told s sound (Report p v) a b = report-told s.n p.0 v (variables_at s p.0) (trust_at s p.0)
-plan-told s sound (Receive q p) a b = receive-told q p.0 (variables_at s p.0) (waiting (channel_at s q.0 p.0))
-plan-told s sound (Respond p q) a b =
-    let x = one_of s.n p.0 a in
-    let y = one_of s.n q.0 b in
-    respond-told s.n p.0 q (variables_at s p.0) (pending_at (process_at s p.0) q.0) ((sound.process p.0 x.0 x.1).recorded q.0 y.0 y.1)
+plan-told s sound (Receive q p) a b = grind (arith, receive-told)
+plan-told s sound (Respond p q) a b = grind (arith, respond-told)
 plan-told s sound (Crash p) a b = refl
 
 attempted-told : (s : System) → Sound s → (o : Step) → Answer (attempted s o)
 unfolding attempted
-attempted-told s sound o =
-    permitted-told s (scope_of o.action) (cut_by o.cut (plan_of s o.action)) (λ a b. cut_told o.cut _ (plan-told s sound o.action a b))
+attempted-told s sound o = grind (arith, permitted-told, cut_told, plan-told)
 
 -- a sound system is never called unsound
 pub sound_not_1 : (s : System) (o : Step) → sound_system s ≡ true → (stepped s o).refusal ≡ 1 → ⊥
@@ -201,11 +142,8 @@ unsound_stays s e (does o ∷ es) = ap (λ (a : Outcome). ran a.system es) (unso
 
 -- every number is one of the table's
 pub number_listed : (s : System) (o : Step) → among answers (stepped s o).refusal ≡ true
-unfolding among stepped
-number_listed s o =
-    by_pick (λ (a : Outcome). among answers a.refusal ≡ true) (sound_system s) _ _
-    (λ e. or_right (eqb (attempted s o).refusal 1) (among sound_answers (attempted s o).refusal) (attempted-told s (sound_facts s e) o))
-    (λ e. refl)
+unfolding among stepped pick
+number_listed s o = grind (arith, attempted-told, sound_facts)
 
 -- ---- lists of events, one after the other
 pub ran_append : (s : System) (es fs : List Event) → ran s (es ++ fs) ≡ ran (ran s es) fs
@@ -222,11 +160,7 @@ tally_append s (e ∷ es) fs =
 
 -- ---- stopped for good
 stays_stopped : {s t : System} {o : Action} → Transition s t o → (k : ℕ) → (variables_at s k).crashed ≡ true → (variables_at t k).crashed ≡ true
-stays_stopped {s} {t} r k crashed =
-    let w = outline r in
-    ap (λ (x : Process). x.variables.crashed)
-    (w.effect.others k (λ e. true_is_not_false (sym (subst (λ (j : ℕ). (variables_at s j).crashed ≡ true) e crashed) ∙ w.acts.live)))
-    ∙ crashed
+stays_stopped {s} {t} r k crashed = grind arith
 
 still_stopped : (s : System) → Valid s → (e : Event) (k : ℕ) → (variables_at s k).crashed ≡ true → (variables_at (happened s e).system k).crashed ≡ true
 unfolding happened

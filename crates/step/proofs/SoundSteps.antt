@@ -3,25 +3,23 @@ use Prim.Native.Nat.{ℕ, ◌+◌, ◌≤◌, ◌<◌}
 use mathlib.Core.Path.{◌≡◌, refl, sym, ◌∙◌, ap, subst}
 use mathlib.Core.Bool.{Bool, true, false}
 use mathlib.Core.List.{List, [], ◌∷◌}
-use mathlib.Core.Logic.{⊎_elim}
 use native.Mathlib.Omega.{arith}
 use borrow.Author.Tests.{le-leb}
 use lib.ListN.{length}
+use Rattle.std.specs.Prelude.{None, Some}
 use Rattle.view.specs.declared.ProcessId.{ProcessId}
 use Rattle.view.specs.declared.GroupIndex.{GroupIndex}
 use Rattle.view.specs.View.{has, within}
-use Rattle.view.proofs.Laws.{and_intro, by_number, true_is_not_false, or_cases, Each}
+use Rattle.view.proofs.Laws.{and_intro, by_number, true_is_not_false, Each}
 use Rattle.view.proofs.Sets.{has_none, not_empty, within_none, within-with}
 use Rattle.channel.specs.declared.Message.{Message}
 use Rattle.channel.specs.declared.Message.TheVariants.{Propose, Retry, Acc, Commit}
 use Rattle.channel.proofs.Laws.{length-waiting}
-use Rattle.system.specs.declared.Pending.{Pending}
-use Rattle.system.specs.declared.Pending.TheVariants.{Nothing, Proposal}
 use Rattle.system.specs.declared.Variables.{Variables}
 use Rattle.system.specs.declared.Process.{Process}
 use Rattle.system.specs.declared.System.{System}
-use Rattle.system.specs.declared.Outcome.{Outcome}
-use Rattle.system.specs.Process.{index, entry_at}
+use Rattle.system.specs.Outcome.{Outcome}
+use Rattle.system.specs.Process.{index, entry_at, Pending, proposal_of}
 use Rattle.system.specs.System.{process_at, variables_at, channel_at}
 use Rattle.sound.specs.Sound.{sound_message, sound_pending}
 use Rattle.plan.specs.declared.Change.{Change}
@@ -97,13 +95,7 @@ module _ {s t : System} {left : ℕ → ℕ → List Message} {p : ℕ} {c : Cha
   -- it has stopped in this step or before
   silent : c.variables.crashed ≡ false → (q k : ℕ) → 1 ≤ q → q ≤ s.n → 1 ≤ k → k ≤ s.n → (variables_at t k).crashed ≡ true → waiting_at t q k ≡ []
   unfolding afterwards
-  silent calm q k a b d e =
-      each_process f (λ j y. 1 ≤ j → j ≤ s.n → y.variables.crashed ≡ true → waiting_at t q j ≡ [])
-      (λ l h crashed. ⊎_elim (λ stop. f.silent stop q) (λ x. true_is_not_false (sym x ∙ calm)) (or_cases stops c.variables.crashed crashed))
-      (λ j l h crashed. nothing_towards q j a b l h crashed (f.channels q j))
-      k
-      d
-      e
+  silent calm q k a b d e = grind (arith, nothing_towards)
 
   effect_sound : c.variables.crashed ≡ (variables_at s p).crashed → SoundChange s.n p c
       → ((b : ℕ) → has to b ≡ true → sound_message s.n p b m ≡ true)
@@ -154,90 +146,30 @@ quiet_sound valid acts part f calm change = effect_sound valid acts part f calm 
 module _ (n p : ℕ) (y : Variables) (f : SoundVariables n p y) where
   assigning_sound : SoundChange n p (assigning y)
   unfolding sound_pending
-  assigning_sound = record { variables = f; pending = refl; entry = within_none n; past = λ e. omega arith }
+  assigning_sound = grind (arith, within_none)
 
   recording_sound : (q : ProcessId) (r : Pending) → sound_pending n q.0 p r ≡ true → SoundChange n p (recording y q r)
   recording_sound q r e = record { variables = f; pending = e; entry = within_none n; past = λ z. omega arith }
 
   entering_sound : (i v : ℕ) → 2 ≤ i → within n v ≡ true → SoundChange n p (entering y i v)
   unfolding sound_pending
-  entering_sound i v l e = record { variables = f; pending = refl; entry = e; past = λ z. omega arith }
+  entering_sound i v l e = grind arith
 
   view_sound : (v : ℕ) → within n v ≡ true → has v p ≡ true → SoundVariables n p (with_view y v)
-  view_sound v inside own =
-      record {
-        next_low = f.next_low;
-        next_high = f.next_high;
-        propout_low = f.propout_low;
-        propout_high = f.propout_high;
-        view_inside = inside;
-        proposal_inside = f.proposal_inside;
-        acks_inside = f.acks_inside;
-        own = own;
-        none_proposed = f.none_proposed;
-        own_proposed = f.own_proposed;
-      }
+  view_sound v inside own = grind arith
 
   next_sound : (i : ℕ) → 2 ≤ i → i ≤ 33 → SoundVariables n p (with_next y i)
-  next_sound i l h =
-      record {
-        next_low = l;
-        next_high = h;
-        propout_low = f.propout_low;
-        propout_high = f.propout_high;
-        view_inside = f.view_inside;
-        proposal_inside = f.proposal_inside;
-        acks_inside = f.acks_inside;
-        own = f.own;
-        none_proposed = f.none_proposed;
-        own_proposed = f.own_proposed;
-      }
+  next_sound i l h = grind arith
 
   acks_sound : (a : ℕ) → within n a ≡ true → SoundVariables n p (with_acks y a)
-  acks_sound a inside =
-      record {
-        next_low = f.next_low;
-        next_high = f.next_high;
-        propout_low = f.propout_low;
-        propout_high = f.propout_high;
-        view_inside = f.view_inside;
-        proposal_inside = f.proposal_inside;
-        acks_inside = inside;
-        own = f.own;
-        none_proposed = f.none_proposed;
-        own_proposed = f.own_proposed;
-      }
+  acks_sound a inside = grind arith
 
   -- PropOut := i, past 1, with a last proposed view that names p; ack := 0
   reproposing_sound : (i : ℕ) → 2 ≤ i → i ≤ 32 → has y.proposal p ≡ true → SoundVariables n p (reproposing y i)
-  reproposing_sound i l h named =
-      record {
-        next_low = f.next_low;
-        next_high = f.next_high;
-        propout_low = omega arith;
-        propout_high = h;
-        view_inside = f.view_inside;
-        proposal_inside = f.proposal_inside;
-        acks_inside = within_none n;
-        own = f.own;
-        none_proposed = λ e. absurd (omega arith);
-        own_proposed = λ e. named;
-      }
+  reproposing_sound i l h named = grind (arith, within_none)
 
   proposing_sound : (v i : ℕ) → within n v ≡ true → has v p ≡ true → 2 ≤ i → i ≤ 32 → SoundVariables n p (proposing y v i)
-  proposing_sound v i inside own l h =
-      record {
-        next_low = f.next_low;
-        next_high = f.next_high;
-        propout_low = omega arith;
-        propout_high = h;
-        view_inside = inside;
-        proposal_inside = inside;
-        acks_inside = within_none n;
-        own = own;
-        none_proposed = λ e. absurd (omega arith);
-        own_proposed = λ e. own;
-      }
+  proposing_sound v i inside own l h = grind (arith, within_none)
 
 marking_inside : (n q i acks : ℕ) (x : Variables) → 1 ≤ q → q ≤ n → q ≤ 8 → within n x.acks ≡ true → Marking x q i acks → within n acks ≡ true
 marking_inside n q i acks x l h b inside (present e a) = rw a (within-with n x.acks q inside l h b)
@@ -258,14 +190,13 @@ acc_sound n q p i l h = and_intro (le-leb 2 i.0 l) (le-leb i.0 32 h)
 
 retry_sound : (n q p : ℕ) (old new : GroupIndex) → 2 ≤ old.0 → old.0 ≤ 32 → old.0 < new.0 → new.0 ≤ 33 → sound_message n q p (Retry old new) ≡ true
 unfolding sound_message
-retry_sound n q p old new a b c d =
-    and_intro (and_intro (le-leb 2 old.0 a) (le-leb old.0 32 b)) (and_intro (le-leb (old.0 + 1) new.0 (omega arith)) (le-leb new.0 33 d))
+retry_sound n q p old new a b c d = grind arith
 
-pending_sound : (n q p v : ℕ) (i : GroupIndex) → SoundProposal n q p v i.0 → sound_pending n q p (Proposal v i) ≡ true
+pending_sound : (n q p v : ℕ) (i : GroupIndex) → SoundProposal n q p v i.0 → sound_pending n q p (Some (proposal_of v i)) ≡ true
 unfolding sound_pending
 pending_sound n q p v i f = proposal_sound n q p v i.0 f
 
-nothing_sound : (n q p : ℕ) → sound_pending n q p Nothing ≡ true
+nothing_sound : (n q p : ℕ) → sound_pending n q p None ≡ true
 unfolding sound_pending
 nothing_sound n q p = refl
 
@@ -275,7 +206,7 @@ past_one k l h = by_number k 1 (λ e. absurd (h e)) (λ n. omega arith)
 -- ---- each transition
 module _ (s t : System) (valid : Valid s) where
   now : (p : ℕ) → Acts s p → SoundVariables s.n p (variables_at s p)
-  now p a = ((sound_facts s valid.sound).process p a.known.low a.known.high).variables
+  now p a = grind (arith, sound_facts)
 
   transition_sound : (o : Action) → Transition s t o → Valid t
   transition_sound (Report p v) (proposes r) =
@@ -291,7 +222,7 @@ module _ (s t : System) (valid : Valid s) where
       (assigning_sound _ _ _ (view_sound _ _ _ (now p.0 r.acts) v r.inside r.own))
   transition_sound (Receive q p) (records r) =
       quiet_sound valid r.acts (taken_left r.taken) r.effect refl
-      (recording_sound _ _ _ (now p.0 r.acts) q (Proposal r.view r.index) (pending_sound _ _ _ r.view r.index r.sound))
+      (recording_sound _ _ _ (now p.0 r.acts) q (Some (proposal_of r.view r.index)) (pending_sound _ _ _ r.view r.index r.sound))
   transition_sound (Receive q p) (reproposes r) =
       let f = now p.0 r.acts in
       effect_sound valid r.acts (taken_left r.taken) r.effect refl
@@ -319,12 +250,12 @@ module _ (s t : System) (valid : Valid s) where
       (entering_sound _ _ _ (now p.0 r.acts) r.index.0 r.view r.sound.low r.sound.inside)
   transition_sound (Respond p q) (accepts r) =
       effect_sound valid r.acts (all_left s) r.effect refl
-      (recording_sound _ _ _ (next_sound _ _ _ (now p.0 r.acts) (r.index.0 + 1) (omega (arith, r.sound.low)) (omega (arith, r.sound.high))) q Nothing (nothing_sound s.n q.0 p.0))
+      (recording_sound _ _ _ (next_sound _ _ _ (now p.0 r.acts) (r.index.0 + 1) (omega (arith, r.sound.low)) (omega (arith, r.sound.high))) q None (nothing_sound s.n q.0 p.0))
       (λ b named. acc_sound _ _ b r.index r.sound.low r.sound.high)
   transition_sound (Respond p q) (declines r) =
       let f = now p.0 r.acts in
       effect_sound valid r.acts (all_left s) r.effect refl
-      (recording_sound _ _ _ f q Nothing (nothing_sound s.n q.0 p.0))
+      (recording_sound _ _ _ f q None (nothing_sound s.n q.0 p.0))
       (λ b named. retry_sound _ _ b r.index (variables_at s p.0).next r.sound.low r.sound.high r.late f.next_high)
   transition_sound (Crash p) (crashes r) =
       quiet_sound valid r.acts (all_left s) r.effect refl (assigning_sound _ _ _ (now p.0 r.acts))

@@ -1,15 +1,15 @@
 -- The soundness test, taken apart into facts and put together from them; and what is valid.
-use Prim.Native.Nat.{ℕ, ◌≤◌, ◌<◌, ◌+◌}
-use mathlib.Core.Path.{◌≡◌, refl, sym, ap}
-use mathlib.Core.Bool.{Bool, true, false, ◌&&◌, ◌||◌, not}
+use Prim.Native.Nat.{ℕ, ◌≤◌, ◌<◌}
+use mathlib.Core.Path.{◌≡◌, refl}
+use mathlib.Core.Bool.{Bool, true, ◌&&◌, not}
 use mathlib.Core.List.{List, [], ◌∷◌}
 use native.Mathlib.Omega.{arith}
-use borrow.Author.Tests.{leb-true, le-leb, eqb-true, eq-eqb, eqb-false, ne_eqb, not-true}
+use borrow.Author.Tests.{leb-true, eqb-true, eq-eqb, eqb-false, ne_eqb, not-true}
 use lib.Dec.{leb, eqb}
 use Rattle.view.specs.declared.GroupIndex.{GroupIndex}
 use Rattle.view.specs.Logic.{pick, all_up_to}
 use Rattle.view.specs.View.{has, within}
-use Rattle.view.proofs.Laws.{and_left, and_right, and_intro, all_intro, all_elim, true_is_not_false, Each, by_number}
+use Rattle.view.proofs.Laws.{and_left, and_right, and_intro, all_intro, all_elim, Each}
 use Rattle.channel.specs.declared.Message.{Message}
 use Rattle.channel.specs.declared.Message.TheVariants.{Retry, Acc}
 use Rattle.channel.specs.declared.Channel.{Channel}
@@ -32,22 +32,11 @@ pub record SoundProposal (n q p v i : ℕ) : Type 0 where
 
 pub proposal_facts : (n q p v i : ℕ) → sound_proposal n q p v i ≡ true → SoundProposal n q p v i
 unfolding sound_proposal
-proposal_facts n q p v i e =
-    let abc = and_left (in_range 2 32 i && within n v && has v q) (has v p) e in
-    let ab = and_left (in_range 2 32 i && within n v) (has v q) abc in
-    let a = and_left (in_range 2 32 i) (within n v) ab in
-    record {
-      low = leb-true 2 i (and_left (leb 2 i) (leb i 32) a);
-      high = leb-true i 32 (and_right (leb 2 i) (leb i 32) a);
-      inside = and_right (in_range 2 32 i) (within n v) ab;
-      sender = and_right (in_range 2 32 i && within n v) (has v q) abc;
-      receiver = and_right (in_range 2 32 i && within n v && has v q) (has v p) e;
-    }
+proposal_facts n q p v i e = grind arith
 
 pub proposal_sound : (n q p v i : ℕ) → SoundProposal n q p v i → sound_proposal n q p v i ≡ true
 unfolding sound_proposal
-proposal_sound n q p v i f =
-    and_intro (and_intro (and_intro (and_intro (le-leb 2 i f.low) (le-leb i 32 f.high)) f.inside) f.sender) f.receiver
+proposal_sound n q p v i f = grind arith
 
 -- ---- messages
 pub every_each : (f : Message → Bool) (ms : List Message) → every f ms ≡ true → Each (λ m. f m ≡ true) ms
@@ -63,18 +52,11 @@ each_every f (m ∷ ms) e = and_intro e.0 (each_every f ms e.1)
 pub retry_facts : (n q p : ℕ) (old new : GroupIndex) → sound_message n q p (Retry old new) ≡ true
     → (2 ≤ old.0) × (old.0 ≤ 32) × (old.0 < new.0) × (new.0 ≤ 33)
 unfolding sound_message
-retry_facts n q p old new e =
-    let a = and_left (in_range 2 32 old.0) (in_range (old.0 + 1) 33 new.0) e in
-    let b = and_right (in_range 2 32 old.0) (in_range (old.0 + 1) 33 new.0) e in (
-      leb-true 2 old.0 (and_left (leb 2 old.0) (leb old.0 32) a),
-      leb-true old.0 32 (and_right (leb 2 old.0) (leb old.0 32) a),
-      omega (arith, leb-true (old.0 + 1) new.0 (and_left (leb (old.0 + 1) new.0) (leb new.0 33) b)),
-      leb-true new.0 33 (and_right (leb (old.0 + 1) new.0) (leb new.0 33) b),
-    )
+retry_facts n q p old new e = grind arith
 
 pub acc_facts : (n q p : ℕ) (i : GroupIndex) → sound_message n q p (Acc i) ≡ true → (2 ≤ i.0) × (i.0 ≤ 32)
 unfolding sound_message
-acc_facts n q p i e = (leb-true 2 i.0 (and_left (leb 2 i.0) (leb i.0 32) e), leb-true i.0 32 (and_right (leb 2 i.0) (leb i.0 32) e))
+acc_facts n q p i e = grind arith
 
 -- ---- a channel
 pub record SoundChannel (n : ℕ) (crashed : Bool) (q p : ℕ) (c : Channel) : Type 0 where
@@ -82,30 +64,13 @@ pub record SoundChannel (n : ℕ) (crashed : Bool) (q p : ℕ) (c : Channel) : T
   pub silent : crashed ≡ true → c.len ≡ 0
   pub messages : Each (λ m. sound_message n q p m ≡ true) (waiting c)
 
-silent_if : (crashed : Bool) (k : ℕ) → (not crashed || eqb k 0) ≡ true → crashed ≡ true → k ≡ 0
-silent_if true k e t = eqb-true k 0 e
-silent_if false k e t = true_is_not_false (sym t)
-
-silent_test : (crashed : Bool) (k : ℕ) → (crashed ≡ true → k ≡ 0) → (not crashed || eqb k 0) ≡ true
-silent_test true k h = eq-eqb k 0 (h refl)
-silent_test false k h = refl
-
 pub channel_facts : (n : ℕ) (crashed : Bool) (q p : ℕ) (c : Channel) → sound_channel n crashed q p c ≡ true → SoundChannel n crashed q p c
 unfolding sound_channel
-channel_facts n crashed q p c e =
-    let ab = and_left (leb c.len 8 && (not crashed || eqb c.len 0)) (every (sound_message n q p) (waiting c)) e in
-    record {
-      short = leb-true c.len 8 (and_left (leb c.len 8) (not crashed || eqb c.len 0) ab);
-      silent = silent_if crashed c.len (and_right (leb c.len 8) (not crashed || eqb c.len 0) ab);
-      messages = every_each (sound_message n q p) (waiting c) (and_right (leb c.len 8 && (not crashed || eqb c.len 0)) (every (sound_message n q p) (waiting c)) e);
-    }
+channel_facts n crashed q p c e = grind (arith, every_each)
 
 pub channel_sound : (n : ℕ) (crashed : Bool) (q p : ℕ) (c : Channel) → SoundChannel n crashed q p c → sound_channel n crashed q p c ≡ true
 unfolding sound_channel
-channel_sound n crashed q p c f =
-    and_intro
-    (and_intro (le-leb c.len 8 f.short) (silent_test crashed c.len f.silent))
-    (each_every (sound_message n q p) (waiting c) f.messages)
+channel_sound n crashed q p c f = grind (arith, each_every)
 
 -- ---- a process
 pub record SoundVariables (n p : ℕ) (x : Variables) : Type 0 where
@@ -141,56 +106,15 @@ proposed_own x p e h = rw (ne_eqb x.propout.0 1 h) at e
 proposed_test : (x : Variables) (p : ℕ) → (x.propout.0 ≡ 1 → x.proposal ≡ 0) → ((x.propout.0 ≡ 1 → ⊥) → has x.proposal p ≡ true)
     → proposed x p ≡ true
 unfolding proposed pick
-proposed_test x p one other =
-    by_number x.propout.0 1
-    (λ e. rw (eq-eqb x.propout.0 1 e) (eq-eqb x.proposal 0 (one e)))
-    (λ h. rw (ne_eqb x.propout.0 1 h) (other h))
+proposed_test x p one other = grind arith
 
 variables_facts : (n p : ℕ) (x : Variables) → sound_variables n p x ≡ true → SoundVariables n p x
 unfolding sound_variables proposed
-variables_facts n p x e7 =
-    let t1 = in_range 2 33 x.next.0 in
-    let t2 = t1 && in_range 1 32 x.propout.0 in
-    let t3 = t2 && within n x.view in
-    let t4 = t3 && within n x.proposal in
-    let t5 = t4 && within n x.acks in
-    let t6 = t5 && has x.view p in
-    let e6 = and_left t6 (proposed x p) e7 in
-    let e5 = and_left t5 (has x.view p) e6 in
-    let e4 = and_left t4 (within n x.acks) e5 in
-    let e3 = and_left t3 (within n x.proposal) e4 in
-    let e2 = and_left t2 (within n x.view) e3 in
-    let e1 = and_left t1 (in_range 1 32 x.propout.0) e2 in
-    let r2 = and_right t1 (in_range 1 32 x.propout.0) e2 in
-    record {
-      next_low = leb-true 2 x.next.0 (and_left (leb 2 x.next.0) (leb x.next.0 33) e1);
-      next_high = leb-true x.next.0 33 (and_right (leb 2 x.next.0) (leb x.next.0 33) e1);
-      propout_low = leb-true 1 x.propout.0 (and_left (leb 1 x.propout.0) (leb x.propout.0 32) r2);
-      propout_high = leb-true x.propout.0 32 (and_right (leb 1 x.propout.0) (leb x.propout.0 32) r2);
-      view_inside = and_right t2 (within n x.view) e3;
-      proposal_inside = and_right t3 (within n x.proposal) e4;
-      acks_inside = and_right t4 (within n x.acks) e5;
-      own = and_right t5 (has x.view p) e6;
-      none_proposed = proposed_none x p (and_right t6 (proposed x p) e7);
-      own_proposed = proposed_own x p (and_right t6 (proposed x p) e7);
-    }
+variables_facts n p x e7 = grind (arith, proposed_none, proposed_own)
 
 variables_sound : (n p : ℕ) (x : Variables) → SoundVariables n p x → sound_variables n p x ≡ true
 unfolding sound_variables proposed
-variables_sound n p x f =
-    and_intro
-    (and_intro
-    (and_intro
-    (and_intro
-    (and_intro
-    (and_intro
-    (and_intro (le-leb 2 x.next.0 f.next_low) (le-leb x.next.0 33 f.next_high))
-    (and_intro (le-leb 1 x.propout.0 f.propout_low) (le-leb x.propout.0 32 f.propout_high)))
-    f.view_inside)
-    f.proposal_inside)
-    f.acks_inside)
-    f.own)
-    (proposed_test x p f.none_proposed f.own_proposed)
+variables_sound n p x f = grind (arith, proposed_test)
 
 pub process_facts : (n p : ℕ) (x : Process) → sound_process n p x ≡ true → SoundProcess n p x
 unfolding sound_process sound_history
@@ -210,12 +134,7 @@ process_facts n p x e =
 
 pub process_sound : (n p : ℕ) (x : Process) → SoundProcess n p x → sound_process n p x ≡ true
 unfolding sound_process sound_history
-process_sound n p x f =
-    and_intro
-    (and_intro
-    (variables_sound n p x.variables f.variables)
-    (and_intro (all_intro 32 (λ i. within n (entry_at x.history i)) f.entries) (ap not (ne_eqb (entry_at x.history 1) 0 f.first))))
-    (all_intro n (λ q. sound_pending n q p (pending_at x q)) f.recorded)
+process_sound n p x f = grind (arith, variables_sound, all_intro)
 
 -- ---- a system
 pub record Sound (s : System) : Type 0 where
@@ -246,11 +165,7 @@ sound_facts s e =
 
 pub facts_sound : (s : System) → Sound s → sound_system s ≡ true
 unfolding sound_system sound_at sound_channel_at
-facts_sound s f =
-    and_intro
-    (and_intro (le-leb 1 s.n f.low) (le-leb s.n 8 f.high))
-    (all_intro s.n (sound_at s)
-    (λ q l u. and_intro (process_sound _ _ _ (f.process q l u)) (all_intro s.n (sound_channel_at s q) (λ p k v. channel_sound _ _ _ _ _ (f.channel q p l u k v)))))
+facts_sound s f = grind (arith, all_intro, process_sound, channel_sound)
 
 -- what every step is proved of: the arrays have their lengths, and the system is sound
 pub record Valid (s : System) : Type 0 where

@@ -5,15 +5,16 @@ use mathlib.Core.Bool.{Bool, true, false, not}
 use mathlib.Core.List.{List}
 use native.Mathlib.Omega.{arith}
 use lib.ListN.{length}
-use Rattle.view.specs.Logic.{each_up_to, at, put}
-use Rattle.view.specs.View.{has, within, subset, minus, switched, everyone}
-use Rattle.view.proofs.Laws.{and_left, and_right, and_intro, one_of, is_one_of_lem, at_put_same, at_put_other, length-put, by_pick, by_number, by_test, each_same, each_keeps, true_is_not_false}
+use Rattle.view.specs.Logic.{each_up_to, at}
+use Rattle.view.specs.View.{has, within, subset, minus, everyone}
+use Rattle.view.specs.Logic.{pick}
+use Rattle.view.proofs.Laws.{at_put_same, at_put_other, length-put, by_pick, by_number, by_test, each_same, each_keeps, true_is_not_false}
 use Rattle.view.proofs.Sets.{has_number, has_none, has_inside, subset-has, has-minus, switched_same, switched_other, everyone-has}
 use Rattle.channel.specs.declared.Message.{Message}
 use Rattle.system.specs.declared.System.{System}
 use Rattle.system.specs.System.{process_at, variables_at, with_process, with_channel, trust_at, may_trust, with_trust, trusting, sent, sent_if_named, broadcasted}
-use Rattle.plan.specs.declared.Plan.{Plan}
 use Rattle.plan.specs.declared.Scope.{Scope}
+use Rattle.plan.specs.Plan.{Planned}
 use Rattle.step.specs.Step.{taken_off, departed, suspected_if_named, doubted, changed_at, emptied_from, crashed_at, crashed_if, effected}
 use Rattle.step.proofs.Frames.{Shape, Numbered}
 use Rattle.step.proofs.Cases.{Known, SameTrust, Doubts}
@@ -26,19 +27,11 @@ mark_in l a b = has (at l a 0) b
 module _ (l : List ℕ) (long : length l ≡ 8) (p q : ℕ) (from : Numbered p) (to : Numbered q) (on : Bool) where
   set_same : mark_in (trusting l p q on) p q ≡ on
   unfolding trusting
-  set_same =
-      ap (λ (w : ℕ). has w q) (at_put_same l p (switched (at l p 0) q on) 0 from.low (omega (arith, from.high)))
-      ∙ switched_same (at l p 0) q to.low to.high on
+  set_same = grind (arith, at_put_same, switched_same)
 
   set_other : (a b : ℕ) → ((a ≡ p) × (b ≡ q) → ⊥) → mark_in (trusting l p q on) a b ≡ mark_in l a b
   unfolding trusting
-  set_other a b n =
-      by_number a p
-      (λ e.
-      subst (λ (i : ℕ). mark_in (put l p (switched (at l p 0) q on)) i b ≡ mark_in l i b) (sym e)
-      (ap (λ (w : ℕ). has w b) (at_put_same l p (switched (at l p 0) q on) 0 from.low (omega (arith, from.high)))
-      ∙ switched_other (at l p 0) q to.low to.high on b (λ same. n (e, same))))
-      (λ other. ap (λ (w : ℕ). has w b) (at_put_other l p a (switched (at l p 0) q on) 0 other))
+  set_other a b n = grind (arith, at_put_same, switched_other, at_put_other)
 
   set_long : length (trusting l p q on) ≡ 8
   unfolding trusting
@@ -61,16 +54,8 @@ module _ (s : System) (shape : Shape s) (p : ℕ) (number : Numbered p) where
     same : (a b : ℕ) → (a ≡ p → b ≡ q → has (variables_at s p).view q ≡ true → ⊥) → mark_in m a b ≡ mark_in l a b
 
   departs : (l : List ℕ) → length l ≡ 8 → (q : ℕ) → Numbered q → Departed l q (departed s p q l)
-  unfolding departed
-  departs l long q to =
-      by_pick (Departed l q) (has (variables_at s p).view q) _ _
-      (λ there.
-      record {
-        long = set_long l long p q number to (not (has (variables_at s q).view p));
-        begun = λ e. set_same l long p q number to (not (has (variables_at s q).view p));
-        same = λ a b n. set_other l long p q number to (not (has (variables_at s q).view p)) a b (λ z. n z.0 z.1 there);
-      })
-      (λ gone. record { long = long; begun = λ e. true_is_not_false (sym e ∙ gone); same = λ a b n. refl })
+  unfolding departed pick
+  departs l long q to = grind (arith, set_long, set_same, set_other)
 
   module _ (d : ℕ) (apart : has d p ≡ false) where
     passed_over : (k : ℕ) (l : List ℕ) → has d (suc k) ≡ false → Lacked s p d k l → Lacked s p d (suc k) l
@@ -131,17 +116,10 @@ module _ (s : System) (shape : Shape s) (p : ℕ) (number : Numbered p) where
 
 -- ---- a report: those of 1 to n that its view lacks
 lacks : (n v b : ℕ) → n ≤ 8 → 1 ≤ b → b ≤ n → has v b ≡ false → has (minus (everyone n) v) b ≡ true
-lacks n v b small low high gone = has-minus (everyone n) v b ∙ and_intro (everyone-has n b small ∙ is_one_of_lem n b low high) (ap not gone)
+lacks n v b small low high gone = grind (arith, has-minus, everyone-has)
 
 lacked_by : (n v b : ℕ) → n ≤ 8 → has (minus (everyone n) v) b ≡ true → (1 ≤ b) × (b ≤ n) × (has v b ≡ false)
-lacked_by n v b small e =
-    let both = sym (has-minus (everyone n) v b) ∙ e in
-    let known = one_of n b (sym (everyone-has n b small) ∙ and_left (has (everyone n) b) (not (has v b)) both) in
-    (known.0, known.1, off (has v b) (and_right (has (everyone n) b) (not (has v b)) both))
-  where
-    off : (x : Bool) → not x ≡ true → x ≡ false
-    off true z = sym z
-    off false z = refl
+lacked_by n v b small e = grind (arith, has-minus, everyone-has)
 
 pub doubts : (s t : System) → Shape s → (p v : ℕ) → Known s p → s.n ≤ 8 → within s.n (variables_at s p).view ≡ true → has v p ≡ true
     → t.trust ≡ each_up_to 8 (suspected_if_named s p (minus (everyone s.n) v)) s.trust
@@ -170,17 +148,12 @@ pub brought_back : (s : System) (p v : ℕ) → subset (minus v (variables_at s 
     → has v b ≡ true
     → has (variables_at s p).view b ≡ false
     → may_trust s p b ≡ true
-brought_back s p v e b named new =
-    subset-has (minus v (variables_at s p).view) (trust_at s p) b e (has-minus v (variables_at s p).view b ∙ and_intro named (ap not new))
+brought_back s p v e b named new = grind (arith, subset-has, has-minus)
 
 -- ---- any other plan suspects nobody
 pub same_trust : (s t : System) (p : ℕ) → t.trust ≡ each_up_to 8 (suspected_if_named s p 0) s.trust → SameTrust s t
-unfolding trust_at suspected_if_named
-same_trust s t p e a b =
-    ap (λ (l : List ℕ). mark_in l a b)
-    (e
-    ∙ each_same 8 (suspected_if_named s p 0) s.trust
-    (λ k. by_pick (λ (l : List ℕ). l ≡ s.trust) (has 0 k) _ _ (λ named. absurd (has_none k named)) (λ z. refl)))
+unfolding trust_at suspected_if_named pick
+same_trust s t p e a b = grind (arith, each_same, has_none)
 
 -- ---- the sets once a plan is carried out
 broadcast_trust : (s : System) (p to : ℕ) (m : Message) → (broadcasted s p to m).trust ≡ s.trust
@@ -199,14 +172,10 @@ unfolding crashed_at emptied_from with_channel with_process
 crash_trust s p = each_keeps (λ (t : System). t.trust ≡ s.trust) 8 (emptied_from p) (λ k l h t e. e) _ refl
 
 doubted_trust : (s : System) (c : Scope) (p d : ℕ) → (doubted (taken_off s c) p d).trust ≡ each_up_to 8 (suspected_if_named s p d) s.trust
-unfolding doubted with_trust taken_off suspected_if_named departed process_at with_channel
-doubted_trust s c p d =
-    by_pick (λ (u : System). each_up_to 8 (suspected_if_named u p d) u.trust ≡ each_up_to 8 (suspected_if_named s p d) s.trust) c.takes _ _ (λ x. refl) (λ x. refl)
+unfolding doubted with_trust taken_off suspected_if_named departed process_at with_channel pick
+doubted_trust s c p d = grind arith
 
-pub effect_trust : (s : System) (c : Scope) (p : ℕ) (a : Plan)
+pub effect_trust : (s : System) (c : Scope) (p : ℕ) (a : Planned)
     → (effected (taken_off s c) p a).trust ≡ each_up_to 8 (suspected_if_named s p a.suspects) s.trust
-unfolding effected crashed_if changed_at with_process
-effect_trust s c p a =
-    by_pick (λ (u : System). u.trust ≡ each_up_to 8 (suspected_if_named s p a.suspects) s.trust) a.stops _ _
-    (λ x. crash_trust _ p ∙ broadcast_trust _ p a.addressees a.message ∙ doubted_trust s c p a.suspects)
-    (λ x. broadcast_trust _ p a.addressees a.message ∙ doubted_trust s c p a.suspects)
+unfolding effected crashed_if changed_at with_process pick
+effect_trust s c p a = grind (arith, crash_trust, broadcast_trust, doubted_trust)

@@ -3,13 +3,12 @@ use Prim.Native.Nat.{ℕ, ◌+◌, ◌*◌, ◌≤◌}
 use mathlib.Core.Path.{◌≡◌, refl}
 use mathlib.Core.Bool.{Bool, true}
 use mathlib.Core.List.{List, [], ◌∷◌, ◌++◌}
-use mathlib.Core.Logic.{⊎_elim}
 use native.Mathlib.Omega.{arith}
-use borrow.Author.Tests.{eqb-true, eqb-false, eq-eqb}
+use borrow.Author.Tests.{eq-eqb}
 use lib.Dec.{eqb}
 use Rattle.view.specs.Logic.{pick}
 use Rattle.view.specs.View.{has}
-use Rattle.view.proofs.Laws.{by_pick, by_test}
+use Rattle.view.proofs.Laws.{by_test}
 use Rattle.view.proofs.Sets.{has_none, has-with}
 use Rattle.channel.specs.declared.Message.{Message}
 use Rattle.system.specs.declared.Variables.{Variables}
@@ -17,7 +16,7 @@ use Rattle.system.specs.declared.System.{System}
 use Rattle.system.specs.System.{variables_at}
 use Rattle.plan.specs.declared.Change.{Change}
 use Rattle.step.specs.Counts.{one}
-use Rattle.step.proofs.Cases.{waiting_at, Taken, stays, grows, empties, Effect, Marking, present, stale}
+use Rattle.step.proofs.Cases.{waiting_at, Taken, Effect, Marking, present, stale}
 
 -- ---- 1 or 0
 pub one_true : (t : Bool) → t ≡ true → one t ≡ 1
@@ -25,8 +24,8 @@ unfolding one pick
 one_true t e = rw e
 
 pub one_small : (t : Bool) → one t ≤ 1
-unfolding one
-one_small t = by_pick (λ (k : ℕ). k ≤ 1) t 1 0 (λ e. omega arith) (λ e. omega arith)
+unfolding one pick
+one_small t = grind arith
 
 -- nobody is marked in the empty set
 pub unmarked : (p : ℕ) → one (has 0 p) ≡ 0
@@ -42,8 +41,8 @@ unfolding is one pick
 is_self p = rw (eq-eqb p p refl)
 
 pub by_is : (P : ℕ → Type 0) (a p : ℕ) → (a ≡ p → P 1) → ((a ≡ p → ⊥) → P 0) → P (is a p)
-unfolding is one
-by_is P a p same other = by_pick P (eqb a p) 1 0 (λ e. same (eqb-true a p e)) (λ e. other (eqb-false a p e))
+unfolding is one pick
+by_is P a p same other = grind arith
 
 pub is_other : (a p : ℕ) → (a ≡ p → ⊥) → is a p ≡ 0
 is_other a p h = by_is (λ k. k ≡ 0) a p (λ e. absurd (h e)) (λ n. refl)
@@ -80,25 +79,14 @@ pub weighs : {s t : System} {left : ℕ → ℕ → List Message} {p : ℕ} {c :
     → (a ≡ p → has to b ≡ true → w m ≤ k)
     → count w (waiting_at t a b) ≤ count w (left a b) + k
 unfolding count
-weighs {left = left} {m = m} f w a b k new =
-    elim (f.channels a b) [
-      | stays e ↦ rw e (omega arith)
-      | grows e told live g ↦ rw g (omega (arith, count_end w (left a b) m, new e (f.addressed b told)))
-      | empties e stop g ↦ rw g (omega arith)
-    ]
+weighs {left = left} {m = m} f w a b k new = grind (arith, count_end)
 
 -- ---- marks
 -- p is marked once an Acc of q is taken: it was, or it is q and the Acc is of the present proposal
 pub marked_present : (x : Variables) (q i acks p : ℕ) → 1 ≤ q → q ≤ 8 → Marking x q i acks
     → one (has acks p) ≤ one (has x.acks p) + is p q * is x.propout.0 i
 unfolding one pick
-marked_present x q i acks p low high (present e a) =
-    by_test (has acks p)
-    (λ yes.
-    ⊎_elim (λ (old : has x.acks p ≡ true). rw (yes, old) (omega arith))
-    (λ (same : p ≡ q). rw (yes, same, e, is_self q, is_self i) (omega arith))
-    (has-with x.acks q p low high (rw a at yes)))
-    (λ no. rw no (omega arith))
+marked_present x q i acks p low high (present e a) = grind (arith, is_self, has-with)
 marked_present x q i acks p low high (stale e a) = rw a (omega arith)
 
 -- whichever proposal it is of

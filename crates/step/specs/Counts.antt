@@ -8,11 +8,11 @@ use Rattle.channel.specs.declared.Message.{Message}
 use Rattle.channel.specs.declared.Message.TheVariants.{Propose, Retry, Acc, Commit}
 use Rattle.system.specs.declared.System.{System}
 use Rattle.system.specs.System.{variables_at, channel_at}
-use Rattle.plan.specs.declared.Plan.{Plan}
 use Rattle.plan.specs.declared.Scope.{Scope}
 use Rattle.plan.specs.declared.Step.{Step}
 use Rattle.step.specs.Scope.{scope_of}
 use Rattle.plan.specs.Cut.{cut_by}
+use Rattle.plan.specs.Plan.{Planned}
 use Rattle.step.specs.Step.{plan_of, taken_off, attempted, Event, does, happened, ran}
 
 -- ---- messages that wait
@@ -42,7 +42,7 @@ vanished s to = sum_up_to 8 (vanishes_at s to)
 
 -- "lost to a stop (cleared by it, or sent to a stopped unit)", where the plan of process p is carried out in t: cleared is what waits
 -- towards process p when it stops: what waits there in t, and the message that it sends to itself
-unfoldable pub lost_at : System → ℕ → Plan → ℕ
+unfoldable pub lost_at : System → ℕ → Planned → ℕ
 lost_at t p a = vanished t a.addressees + pick a.stops (waiting_towards t p + one (has a.addressees p)) 0
 
 unfoldable pub is_commit : Message → Bool
@@ -53,7 +53,7 @@ is_commit (Commit v i) = true
 
 -- What the plan of process p counts, where PropOut was `before` and so many messages are lost. Document 01, "Tally": "A proposal is a rise of
 -- PropOut, cut or not, committed if any Commit was sent."
-abbrev pub plan_counts : Scope → Plan → ℕ → ℕ → Tally
+abbrev pub plan_counts : Scope → Planned → ℕ → ℕ → Tally
 plan_counts c a before lost =
     record {
       sent = count_of a.addressees;
@@ -65,7 +65,7 @@ plan_counts c a before lost =
     }
 
 -- the plan is carried out in t, whose waiting messages are those that the step did not take
-unfoldable pub plan_tally : System → Scope → Plan → Tally
+unfoldable pub plan_tally : System → Scope → Planned → Tally
 plan_tally t c a = plan_counts c a (variables_at t c.actor.0).propout.0 (lost_at t c.actor.0 a)
 
 -- a step that is refused counts nothing

@@ -1,10 +1,8 @@
 -- S-4: "At rest means no waiting message and no answer that could be given".
-use Rattle.std.specs.Prelude.{ℕ, Bool, false, ◌&&◌, not, eqb}
+use Rattle.std.specs.Prelude.{ℕ, Bool, false, ◌&&◌, not, eqb, None, Some}
 use Rattle.view.specs.Logic.{all_up_to}
-use Rattle.system.specs.declared.Pending.{Pending}
-use Rattle.system.specs.declared.Pending.TheVariants.{Nothing, Proposal}
 use Rattle.system.specs.declared.System.{System}
-use Rattle.system.specs.Process.{pending_at}
+use Rattle.system.specs.Process.{pending_at, Pending}
 use Rattle.system.specs.System.{process_at, variables_at, channel_at}
 
 -- no message waits from process q to process p
@@ -13,8 +11,8 @@ idle_from s p q = eqb (channel_at s q p).len 0
 
 -- a recorded proposal of this view
 unfoldable pub matches : ℕ → Pending → Bool
-matches v Nothing = false
-matches v (Proposal w i) = eqb w v
+matches v None = false
+matches v (Some r) = eqb r.view v
 
 -- process p could answer process q: it has not stopped, and the record from q is of its local view. Room is not asked: where an answer
 -- finds none, a message waits

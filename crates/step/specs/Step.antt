@@ -4,22 +4,21 @@ use Rattle.view.specs.Logic.{pick, unless, each_up_to, is_one_of}
 use Rattle.view.specs.View.{has}
 use Rattle.channel.specs.Channel.{empty_channel, front, popped}
 use Rattle.system.specs.declared.System.{System}
-use Rattle.system.specs.declared.Outcome.{Outcome}
+use Rattle.system.specs.Outcome.{Outcome, done, refused}
 use Rattle.system.specs.Process.{as_crashed, pending_at, with_variables}
-use Rattle.system.specs.System.{process_at, variables_at, with_process, channel_at, with_channel, trust_at, with_trust, trusting, broadcasted, room_for, done, refused}
+use Rattle.system.specs.System.{process_at, variables_at, with_process, channel_at, with_channel, trust_at, with_trust, trusting, broadcasted, room_for}
 use Rattle.sound.specs.Sound.{sound_system}
 use Rattle.plan.specs.declared.Change.{Change}
-use Rattle.plan.specs.declared.Plan.{Plan}
 use Rattle.plan.specs.declared.Scope.{Scope}
 use Rattle.plan.specs.declared.Action.{Action}
 use Rattle.plan.specs.declared.Action.TheVariants.{Report, Receive, Respond, Crash}
 use Rattle.plan.specs.declared.Step.{Step}
-use Rattle.plan.specs.Plan.{changed, report_plan, receive_plan, respond_plan, crash_plan}
+use Rattle.plan.specs.Plan.{changed, report_plan, receive_plan, respond_plan, crash_plan, Planned}
 use Rattle.step.specs.Scope.{scope_of}
 use Rattle.plan.specs.Cut.{cut_by}
 
 -- what the acting process plans, where it is not cut
-unfoldable pub plan_of : System → Action → Plan
+unfoldable pub plan_of : System → Action → Planned
 plan_of s (Report p v) = report_plan s.n p.0 v (variables_at s p.0) (trust_at s p.0)
 plan_of s (Receive q p) = receive_plan q p.0 (variables_at s p.0) (front (channel_at s q.0 p.0))
 plan_of s (Respond p q) = respond_plan q (variables_at s p.0) (pending_at (process_at s p.0) q.0)
@@ -59,16 +58,16 @@ unfoldable pub changed_at : System → ℕ → Change → System
 changed_at s p c = with_process s p (changed (process_at s p) c)
 
 -- process p doubts whom its plan says, changes as it says, and its message goes out
-abbrev pub placed : System → ℕ → Plan → System
+abbrev pub placed : System → ℕ → Planned → System
 placed t p a = broadcasted (changed_at (doubted t p a.suspects) p a.change) p a.addressees a.message
 
 -- and it stops or not
-unfoldable pub effected : System → ℕ → Plan → System
+unfoldable pub effected : System → ℕ → Planned → System
 effected t p a = crashed_if a.stops (placed t p a) p
 
 -- The plan of process p is carried out in t; a refusal returns s, the system handed over. Refusal 7: "a message of this step goes
 -- to a unit that has not stopped, over a line that already holds 8".
-unfoldable pub carried_out : System → System → ℕ → Plan → Outcome
+unfoldable pub carried_out : System → System → ℕ → Planned → Outcome
 carried_out s t p a =
     unless (eqb a.refusal 0) (refused a.refusal s)
     (unless (room_for t p a.addressees) (refused 7 s)
@@ -76,7 +75,7 @@ carried_out s t p a =
 
 -- Refusal 2, "a unit number in the step is not 1 to n"; refusal 3, "the unit that would act has stopped". Otherwise the plan is
 -- carried out.
-unfoldable pub permitted : System → Scope → Plan → Outcome
+unfoldable pub permitted : System → Scope → Planned → Outcome
 permitted s c a =
     unless (is_one_of s.n c.actor.0 && is_one_of s.n c.partner.0) (refused 2 s)
     (pick (variables_at s c.actor.0).crashed (refused 3 s)

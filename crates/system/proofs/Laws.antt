@@ -1,10 +1,11 @@
 -- Laws of which channel runs where.
 use Prim.Native.Nat.{ℕ, ◌+◌, ◌-◌, ◌*◌, ◌≤◌, ◌<◌}
-use mathlib.Core.Path.{◌≡◌, refl}
-use mathlib.Core.Bool.{Bool, true, false, ◌&&◌}
+use mathlib.Core.Path.{◌≡◌, refl, ap}
+use mathlib.Core.Bool.{Bool, true, false, ◌&&◌, and-false}
 use native.Mathlib.Omega.{arith}
+use Rattle.std.specs.Prelude.{None, Some}
 use Rattle.view.specs.Logic.{pick, is_one_of, place_of}
-use Rattle.view.proofs.Laws.{and_intro, is_one_of_lem, not_found, found_next}
+use Rattle.view.proofs.Laws.{and_intro, is_one_of_lem, placed}
 use Rattle.system.specs.System.{channel_number}
 
 -- ---- the number of a channel
@@ -29,24 +30,21 @@ number_next i j hi hj =
     let e = number_in (i + 1) (j + 1) (and_intro (is_one_of_lem 8 (i + 1) (omega arith) (omega arith)) (is_one_of_lem 8 (j + 1) (omega arith) (omega arith))) in
     omega (arith, e)
 
--- where the code looks for a channel
-module _ (q p from to : ℕ) (sender : from ≡ place_of 8 q) (receiver : to ≡ place_of 8 p) where
-  pub place_in : from < 8 → to < 8 → 8 * from + to ≡ place_of 64 (channel_number q p)
+-- ---- where the code looks for a channel among the sixty-four
+no_channel : (q p : ℕ) → (is_one_of 8 q && is_one_of 8 p) ≡ false → place_of 64 (channel_number q p) ≡ None
+unfolding place_of pick
+no_channel q p e = rw (number_out q p e)
+
+module _ (q p : ℕ) where
+  pub no_sender : place_of 8 q ≡ None → place_of 64 (channel_number q p) ≡ None
+  no_sender f = no_channel q p (rw (rw f at (placed 8 q)))
+
+  pub no_receiver : place_of 8 p ≡ None → place_of 64 (channel_number q p) ≡ None
+  no_receiver t = no_channel q p (rw (rw t at (placed 8 p)) (and-false _))
+
+  pub sender_and_receiver : (i j : ℕ) → place_of 8 q ≡ Some i → place_of 8 p ≡ Some j → place_of 64 (channel_number q p) ≡ Some (8 * i + j)
   unfolding place_of pick
-  place_in hf ht =
-      rw (found_next 8 q from sender hf, found_next 8 p to receiver ht, number_next from to hf ht, is_one_of_lem 64 (8 * from + to + 1) (omega arith) (omega arith))
-      (omega arith)
-
-  place_none : (is_one_of 8 q && is_one_of 8 p) ≡ false → 64 ≡ place_of 64 (channel_number q p)
-  unfolding place_of pick
-  place_none e = rw (number_out q p e)
-
-  pub no_sender : 8 ≤ from → 64 ≡ place_of 64 (channel_number q p)
-  no_sender h = place_none (rw (not_found 8 q from sender h))
-
-  pub no_receiver : 8 ≤ to → 64 ≡ place_of 64 (channel_number q p)
-  no_receiver h = place_none (rw (not_found 8 p to receiver h) (go (is_one_of 8 q)))
-    where
-      go : (b : Bool) → (b && false) ≡ false
-      go true = refl
-      go false = refl
+  sender_and_receiver i j f t =
+      let from = rw f at (placed 8 q) in
+      let to = rw t at (placed 8 p) in
+      rw (from.1, to.1, number_next i j from.0 to.0, is_one_of_lem 64 (8 * i + j + 1) (omega arith) (omega arith)) (ap Some (omega arith))

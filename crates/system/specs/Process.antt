@@ -1,13 +1,11 @@
 -- Document 01: "Each history has positions 1 to 32, each empty or holding a view", and "Each unit also holds: whether it has
 -- stopped; its local view; Next; PropOut; its last proposed view; the set of units that have acknowledged; and for each unit
 -- one recorded proposal or none."
-use Rattle.std.specs.Prelude.{ℕ, Bool, true, false, not, eqb, replicate}
+use Rattle.std.specs.Prelude.{ℕ, Bool, true, false, not, eqb, Option, None, replicate}
 use Rattle.view.specs.declared.GroupIndex.{GroupIndex}
 use Rattle.view.specs.Logic.{at, put}
 use Rattle.system.specs.declared.History.{History}
-use Rattle.system.specs.declared.Pending.{Pending}
-use Rattle.system.specs.declared.Pending.TheVariants.{Nothing}
-use Rattle.system.specs.declared.PendingSlot.{PendingSlot}
+use Rattle.system.specs.declared.Proposal.{Proposal}
 use Rattle.system.specs.declared.Variables.{Variables}
 use Rattle.system.specs.declared.Process.{Process}
 
@@ -43,18 +41,22 @@ abbrev pub no_variables : Variables
 no_variables = record { crashed = false; view = 0; next = index 0; propout = index 0; proposal = 0; acks = 0 }
 
 -- ---- the parts of a process
-abbrev pub pending_slot : Pending → PendingSlot
-pending_slot x = record { pending = x }
+-- "for each unit one recorded proposal or none"
+abbrev pub Pending : Type 0
+Pending = Option Proposal
+
+abbrev pub proposal_of : ℕ → GroupIndex → Proposal
+proposal_of v i = record { view = v; index = i }
 
 -- the proposal recorded from process q
 unfoldable pub pending_at : Process → ℕ → Pending
-pending_at x q = (at x.pending q (pending_slot Nothing)).pending
+pending_at x q = at x.pending q None
 
 unfoldable pub with_variables : Process → Variables → Process
 with_variables x y = record { variables = y; pending = x.pending; history = x.history }
 
 unfoldable pub with_pending : Process → ℕ → Pending → Process
-with_pending x q r = record { variables = x.variables; pending = put x.pending q (pending_slot r); history = x.history }
+with_pending x q r = record { variables = x.variables; pending = put x.pending q r; history = x.history }
 
 unfoldable pub with_history : Process → History → Process
 with_history x h = record { variables = x.variables; pending = x.pending; history = h }

@@ -1,20 +1,18 @@
 -- Document 01's table, called the system here: n processes and, between every ordered pair of them, one channel.
-use Rattle.std.specs.Prelude.{ℕ, ◌+◌, ◌-◌, ◌*◌, Bool, ◌&&◌, ◌||◌, not, List, replicate}
+use Rattle.std.specs.Prelude.{ℕ, ◌+◌, ◌-◌, ◌*◌, Bool, ◌&&◌, ◌||◌, not, List, None, replicate}
 use Rattle.view.specs.Logic.{pick, all_up_to, each_up_to, at, put, is_one_of}
 use Rattle.view.specs.View.{has, switched}
 use Rattle.channel.specs.declared.Message.{Message}
 use Rattle.channel.specs.declared.Channel.{Channel}
 use Rattle.channel.specs.Channel.{empty_channel, has_room, pushed}
-use Rattle.system.specs.declared.Pending.TheVariants.{Nothing}
 use Rattle.system.specs.declared.Variables.{Variables}
 use Rattle.system.specs.declared.Process.{Process}
 use Rattle.system.specs.declared.System.{System}
-use Rattle.system.specs.declared.Outcome.{Outcome}
-use Rattle.system.specs.Process.{no_variables, entry_at, no_entries, pending_slot}
+use Rattle.system.specs.Process.{no_variables, entry_at, no_entries}
 
 -- what is read where there is no process of that number
 unfoldable pub no_process : Process
-no_process = record { variables = no_variables; pending = replicate 8 (pending_slot Nothing); history = no_entries }
+no_process = record { variables = no_variables; pending = replicate 8 None; history = no_entries }
 
 unfoldable pub process_at : System → ℕ → Process
 process_at s p = at s.processes p no_process
@@ -76,10 +74,3 @@ takes_if_named s q v p = not (has v p) || ((variables_at s p).crashed || has_roo
 -- a broadcast finds room
 unfoldable pub room_for : System → ℕ → ℕ → Bool
 room_for s q v = all_up_to 8 (takes_if_named s q v)
-
--- the number 0 and the next system; or a refusal number and the same system
-abbrev pub done : System → Outcome
-done s = record { refusal = 0; system = s }
-
-abbrev pub refused : ℕ → System → Outcome
-refused k s = record { refusal = k; system = s }

@@ -2,24 +2,20 @@
 #![tactic(auto)]
 
 ghost use Rattle.std.specs.Prelude.{◌≡◌};
-ghost use Rattle.system.specs.Fresh.{fresh_process, fresh_system, fresh_of};
+ghost use Rattle.system.specs.Fresh.{fresh_variables, fresh_process, fresh_system, fresh_of};
+ghost use Rattle.system.specs.Outcome.{outcome_of};
 
 pub mod refusal;
 
-use crate::refusal::STRANGER;
+use crate::refusal::Refusal;
 use channel::Channel;
-use view::{GroupIndex, and, everyone};
+use view::{GroupIndex, everyone};
 
-// A recorded proposal, or none.
-#[derive(Clone, Copy)]
-pub enum Pending {
-    Nothing,
-    Proposal(u8, GroupIndex),
-}
-
-#[derive(Clone, Copy)]
-pub struct PendingSlot {
-    pub pending: Pending,
+// A recorded proposal.
+#[derive(Clone, Copy, PartialEq, Eq)]
+pub struct Proposal {
+    pub view: u8,
+    pub index: GroupIndex,
 }
 
 // The views committed at group indices 1 to 32; the empty view where there is none.
@@ -45,7 +41,7 @@ pub struct Variables {
 #[derive(Clone, Copy)]
 pub struct Process {
     pub variables: Variables,
-    pub pending: [PendingSlot; 8],
+    pub pending: [Option<Proposal>; 8],
     pub history: History,
 }
 
@@ -60,67 +56,65 @@ pub struct System {
     pub trust: [u8; 8],
 }
 
-// The number 0 and the next system, or a refusal number and the same system.
+// A refusal, and the system that was handed over.
 #[derive(Clone, Copy)]
-pub struct Outcome {
-    pub refusal: u8,
+pub struct Refused {
+    pub refusal: Refusal,
     pub system: System,
 }
 
+impl Variables {
+    // Those of a fresh process, of n.
+    #[tactic(auto, unfolding(crate::specs::Fresh::fresh_variables))]
+    pub fn fresh(n: u8) -> Variables
+        ensures { result ≡ fresh_variables n }
+    {
+        Variables {
+            crashed: false,
+            view: everyone(n),
+            next: GroupIndex(2),
+            propout: GroupIndex(1),
+            proposal: 0,
+            acks: 0,
+        }
+    }
+}
+
+#[tactic(auto, unfolding(crate::specs::Fresh::fresh_process, crate::specs::Fresh::fresh_variables, crate::specs::Process::with_entry, view::specs::Logic::put))]
 fn fresh_process(n: u8) -> Process
     ensures { result ≡ fresh_process n }
 {
-    let all = everyone(n);
-    let slot = PendingSlot {
-        pending: Pending::Nothing,
-    };
-    let pending = [slot; 8];
-    let mut entries = [0u8; 32];
-    entries[0] = all;
-    let history = History { entries };
-    let variables = Variables {
-        crashed: false,
-        view: all,
-        next: GroupIndex(2),
-        propout: GroupIndex(1),
-        proposal: 0,
-        acks: 0,
-    };
+    let variables = Variables::fresh(n);
+    let mut entries = [0; 32];
+    entries[0] = variables.view;
     Process {
         variables,
-        pending,
-        history,
+        pending: [None; 8],
+        history: History { entries },
     }
 }
 
 fn fresh_system(n: u8) -> System
     ensures { result ≡ fresh_system n }
 {
-    let p = fresh_process(n);
-    let c = channel::empty();
-    let processes = [p; 8];
-    let channels = [c; 64];
-    let trust = [0u8; 8];
     System {
         n,
-        processes,
-        channels,
-        trust,
+        processes: [fresh_process(n); 8],
+        channels: [Channel::empty(); 64],
+        trust: [0; 8],
     }
 }
 
 // The fresh system of n processes; for another number than 1 to 8, a refusal and a system of none.
-pub fn fresh(n: u8) -> Outcome
-    ensures { result ≡ fresh_of n }
+pub fn fresh(n: u8) -> Result<System, Refused>
+    ensures { outcome_of result ≡ fresh_of n }
 {
-    if and(1 <= n, n <= 8) {
-        let system = fresh_system(n);
-        Outcome { refusal: 0, system }
+    if 1 <= n && n <= 8 {
+        Ok(fresh_system(n))
     } else {
-        let system = fresh_system(0);
-        Outcome {
-            refusal: STRANGER,
-            system,
-        }
+        Err(Refused {
+            refusal: Refusal::Stranger,
+            system: fresh_system(0),
+        })
     }
 }

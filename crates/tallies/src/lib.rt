@@ -3,13 +3,15 @@
 #![tactic(auto)]
 
 ghost use Rattle.std.specs.Prelude.{◌+◌, ◌≡◌};
-ghost use Rattle.tallies.specs.Tally.{no_tally, plus, capped_count, capped};
+ghost use Rattle.tallies.specs.Tally.{plus, capped};
 
 pub mod share;
 
+use std::ops::{Add, AddAssign};
+
 // Document 02, S-7: "messages sent, taken, waiting, and lost to a stop"; and proposals, with those of
-// them for which a Commit was sent.
-#[derive(Clone, Copy)]
+// them for which a Commit was sent. `Tally::default()` is nothing counted yet, `no_tally`.
+#[derive(Clone, Copy, PartialEq, Eq, Default)]
 pub struct Tally {
     pub sent: u64,
     pub taken: u64,
@@ -19,57 +21,30 @@ pub struct Tally {
     pub committed: u64,
 }
 
-// Nothing counted yet.
-pub fn none() -> Tally
-    ensures { result ≡ no_tally }
-{
-    Tally {
-        sent: 0,
-        taken: 0,
-        waiting: 0,
-        lost: 0,
-        proposals: 0,
-        committed: 0,
-    }
-}
+// Two tallies added up: a count past the end stays at the largest number.
+impl Add for Tally {
+    type Output = Tally;
 
-// Two counts added up: past the end it stays at the largest number.
-fn count_sum(a: u64, b: u64) -> u64
-    ensures { result ≡ capped_count (a + b) }
-{
-    if a <= 18446744073709551615 - b {
-        a + b
-    } else {
-        18446744073709551615
-    }
-}
+    ghost add_gives = { λ a b t. t ≡ capped (plus a b) };
 
-// Two tallies added up.
-pub fn sum(a: Tally, b: Tally) -> Tally
-    ensures { result ≡ capped (plus a b) }
-{
-    Tally {
-        sent: count_sum(a.sent, b.sent),
-        taken: count_sum(a.taken, b.taken),
-        waiting: count_sum(a.waiting, b.waiting),
-        lost: count_sum(a.lost, b.lost),
-        proposals: count_sum(a.proposals, b.proposals),
-        committed: count_sum(a.committed, b.committed),
+    #[tactic(auto, unfolding(crate::specs::Tally::capped, crate::specs::Tally::plus))]
+    fn add(self, other: Tally) -> Tally {
+        Tally {
+            sent: self.sent.saturating_add(other.sent),
+            taken: self.taken.saturating_add(other.taken),
+            waiting: self.waiting.saturating_add(other.waiting),
+            lost: self.lost.saturating_add(other.lost),
+            proposals: self.proposals.saturating_add(other.proposals),
+            committed: self.committed.saturating_add(other.committed),
+        }
     }
 }
 
 // "changed where it stands": adds one tally to another.
-pub fn add(total: &mut Tally, one: Tally)
-    ensures { total.new ≡ capped (plus total.old one) }
-{
-    *total = sum(*total, one);
-}
+impl AddAssign for Tally {
+    ghost add_assign_gives = { λ old one t. t ≡ capped (plus old one) };
 
-// A tally with another added to it.
-pub fn added(total: Tally, one: Tally) -> Tally
-    ensures { result ≡ capped (plus total one) }
-{
-    let mut t = total;
-    add(&mut t, one);
-    t
+    fn add_assign(&mut self, one: Tally) {
+        *self = *self + one;
+    }
 }

@@ -12,6 +12,7 @@ use borrow.Author.Tests.{leb-true, le-leb}
 use lib.Dec.{leb}
 use lib.ListN.{length, get_or, set, replicate, length-set, length-map, get_or-eq_default}
 use lib.Seq.{get_or-set_same, get_or-set_other, set-set, set-get_or, set_out}
+use Rattle.std.specs.Prelude.{Option, None, Some}
 use Rattle.view.specs.Logic.{pick, all_up_to, each_up_to, at, put, is_one_of, place_of}
 
 -- ---- tests
@@ -74,6 +75,36 @@ all_more i f = simp add-one
 pub each_more : {A : Type 0} (i : ℕ) (f : ℕ → A → A) (a : A) → each_up_to (i + 1) f a ≡ f (i + 1) (each_up_to i f a)
 unfolding each_up_to
 each_more i f a = simp add-one
+
+-- ---- loops `for i in 1..=n`: before turn i the turns up to i - 1 are done
+pub before_next : (i : ℕ) → 1 ≤ i → i + 1 - 1 ≡ i - 1 + 1
+before_next i h = omega arith
+
+pub each_next : {A : Type 0} (i : ℕ) (f : ℕ → A → A) (a : A) → 1 ≤ i → f i (each_up_to (i - 1) f a) ≡ each_up_to (i + 1 - 1) f a
+each_next i f a h =
+    let e : i ≡ i - 1 + 1 = omega arith in
+    rw (before_next i h) (ap (λ k. f k (each_up_to (i - 1) f a)) e ∙ sym (each_more (i - 1) f a))
+
+pub all_next : (i : ℕ) (f : ℕ → Bool) → 1 ≤ i → (all_up_to (i - 1) f && f i) ≡ all_up_to (i + 1 - 1) f
+all_next i f h =
+    let e : i ≡ i - 1 + 1 = omega arith in
+    rw (before_next i h) (ap (λ k. all_up_to (i - 1) f && f k) e ∙ sym (all_more (i - 1) f))
+
+-- after the last turn all n are done
+pub all_done : (i n : ℕ) → i ≤ n + 1 → n < i → i - 1 ≡ n
+all_done i n u l = omega arith
+
+-- ok is a test, and those of each number before i
+module _ (a ok : Bool) (i n : ℕ) (f : ℕ → Bool) (so_far : ok ≡ (a && all_up_to (i - 1) f)) where
+  -- after turn i, which asks t; after turn n; and where i has passed n
+  pub tested_turn : (t : Bool) → 1 ≤ i → t ≡ f i → (ok && t) ≡ (a && all_up_to (i + 1 - 1) f)
+  tested_turn t h is = rw (so_far, is) (and_assoc a (all_up_to (i - 1) f) (f i) ∙ ap (λ (b : Bool). a && b) (all_next i f h))
+
+  pub tested_last : (t : Bool) → 1 ≤ i → t ≡ f i → i ≤ n → n ≤ i → (ok && t) ≡ (a && all_up_to n f)
+  tested_last t h is u l = tested_turn t h is ∙ ap (λ (k : ℕ). a && all_up_to k f) (omega arith)
+
+  pub tested_all : i ≤ n + 1 → n < i → ok ≡ (a && all_up_to n f)
+  tested_all u l = so_far ∙ ap (λ (k : ℕ). a && all_up_to k f) (all_done i n u l)
 
 pub each_same : {A : Type 0} (n : ℕ) (f : ℕ → A → A) (a : A) → ((k : ℕ) → f k a ≡ a) → each_up_to n f a ≡ a
 unfolding each_up_to
@@ -219,46 +250,38 @@ put_again l (suc k) a d f =
     ]
 
 -- ---- the element numbered k, as the code finds it
-place_in : (n k : ℕ) → place_of n k < n → (1 ≤ k) × (k ≤ n) × (place_of n k ≡ k - 1)
-unfolding place_of pick
-place_in n k h = go (is_one_of n k) refl h
-  where
-    go : (b : Bool) → is_one_of n k ≡ b → pick b (k - 1) n < n → (1 ≤ k) × (k ≤ n) × (pick (is_one_of n k) (k - 1) n ≡ k - 1)
-    go true e l = ((one_of n k e).0, (one_of n k e).1, rw e)
-    go false e l = absurd (omega arith)
+abbrev pub Placed : ℕ → ℕ → Option ℕ → Type 0
+Placed n k None = is_one_of n k ≡ false
+Placed n k (Some j) = (j < n) × (k ≡ j + 1)
 
-place_out : (n k : ℕ) → n ≤ place_of n k → (k ≡ 0) ⊎ (n < k)
+pub placed : (n k : ℕ) → Placed n k (place_of n k)
 unfolding place_of pick
-place_out n zero h = inl refl
-place_out n (suc k) h = go (dec_le (suc k) n)
+placed n k = go (is_one_of n k) refl
+  where
+    go : (t : Bool) → is_one_of n k ≡ t → Placed n k (pick t (Some (k - 1)) None)
+    go true e = let h = one_of n k e in (omega arith, omega arith)
+    go false e = e
+
+-- there is none
+outside : (n k : ℕ) → is_one_of n k ≡ false → (k ≡ 0) ⊎ (n < k)
+outside n zero e = inl refl
+outside n (suc k) e = go (dec_le (suc k) n)
   where
     go : Dec (suc k ≤ n) → (suc k ≡ 0) ⊎ (n < suc k)
-    go (yes p) = absurd (omega (arith, rw (and_intro (le-leb 1 (suc k) (omega arith)) (le-leb (suc k) n p)) at h))
+    go (yes p) = true_is_not_false (sym (is_one_of_lem n (suc k) (omega arith) p) ∙ e)
     go (no q) = inr (lt_of_not-le q)
 
-pub not_found : (n k r : ℕ) → r ≡ place_of n k → n ≤ r → is_one_of n k ≡ false
-unfolding place_of pick
-not_found n k r place h = go (is_one_of n k) refl
-  where
-    go : (b : Bool) → is_one_of n k ≡ b → b ≡ false
-    go true e = absurd (omega (arith, one_of n k e, rw e at place))
-    go false e = refl
+module _ {A : Type 0} (l : List A) (n k : ℕ) (long : length l ≡ n) where
+  pub at_placed : (j : ℕ) (d : A) → Placed n k (Some j) → at l k d ≡ get_or l j d
+  at_placed j d h = ap (λ (m : ℕ). at l m d) h.1 ∙ sym (at_next l j d d (omega arith))
 
-pub found_next : (n k r : ℕ) → r ≡ place_of n k → r < n → k ≡ r + 1
-found_next n k r place h = omega (arith, place_in n k (rw (← place) h))
+  pub put_placed : (j : ℕ) (a : A) → Placed n k (Some j) → put l k a ≡ set l j a
+  put_placed j a h = ap (λ (m : ℕ). put l m a) h.1 ∙ sym (put_next l j a)
 
--- r is where the code looks for the element numbered k of an array of n
-module _ {A : Type 0} (l : List A) (n k r : ℕ) (place : r ≡ place_of n k) (long : length l ≡ n) where
-  pub at_found : (d e : A) → r < n → get_or l r d ≡ at l k e
-  at_found d e h = at_next l r d e (omega arith) ∙ ap (λ (j : ℕ). at l j e) (omega (arith, place_in n k (rw (← place) h)))
-
-  pub put_found : (a : A) → r < n → set l r a ≡ put l k a
-  put_found a h = put_next l r a ∙ ap (λ (j : ℕ). put l j a) (omega (arith, place_in n k (rw (← place) h)))
-
-  pub at_missing : (d : A) → n ≤ r → d ≡ at l k d
+  pub at_missing : (d : A) → Placed n k None → at l k d ≡ d
   unfolding at
-  at_missing d h = ⊎_elim (λ e. rw e) (λ u. sym (at_past l k d (omega arith))) (place_out n k (rw (← place) h))
+  at_missing d h = ⊎_elim (λ e. rw e) (λ u. at_past l k d (omega arith)) (outside n k h)
 
-  pub put_missing : (a : A) → n ≤ r → l ≡ put l k a
+  pub put_missing : (a : A) → Placed n k None → put l k a ≡ l
   unfolding put
-  put_missing a h = ⊎_elim (λ e. rw e) (λ u. sym (put_past l k a (omega arith))) (place_out n k (rw (← place) h))
+  put_missing a h = ⊎_elim (λ e. rw e) (λ u. put_past l k a (omega arith)) (outside n k h)

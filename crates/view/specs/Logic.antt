@@ -1,6 +1,6 @@
 -- The few words that every definition of this project is written with: a choice by a test, a test or a change for each of
 -- the numbers 1 to n, and lists numbered from 1.
-use Rattle.std.specs.Prelude.{ℕ, zero, suc, ◌+◌, ◌-◌, Bool, true, false, ◌&&◌, List, leb, get_or, set}
+use Rattle.std.specs.Prelude.{ℕ, zero, suc, ◌+◌, ◌-◌, Bool, true, false, ◌&&◌, List, Option, None, Some, leb, get_or, set}
 
 -- a if the test holds, b if not
 unfoldable pub pick : {A : Type 0} → Bool → A → A → A
@@ -40,6 +40,6 @@ put l (suc k) a = set l k a
 abbrev pub is_one_of : ℕ → ℕ → Bool
 is_one_of n k = leb 1 k && leb k n
 
--- where an array of n has the element numbered k, counted from 0; n where it has none
-unfoldable pub place_of : ℕ → ℕ → ℕ
-place_of n k = pick (is_one_of n k) (k - 1) n
+-- where an array of n has the element numbered k, counted from 0, if it has one
+unfoldable pub place_of : ℕ → ℕ → Option ℕ
+place_of n k = pick (is_one_of n k) (Some (k - 1)) None

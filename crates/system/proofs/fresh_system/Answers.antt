@@ -4,4 +4,4 @@ use Rattle.system.proofs.fresh_system.Goals as goal
 
 pub returns : goal.returns
 unfolding fresh_system
-returns c = simp (c.empty-c.ensures, c.fresh_process-p.ensures)
+returns c = simp (c.empty.ensures, c.fresh_process.ensures)

@@ -1,12 +1,8 @@
--- `view::first_members`: after i turns the first i processes have had theirs.
-use Prim.Native.Nat.{◌-◌, ◌≤◌}
-use mathlib.Core.Path.{◌≡◌}
+-- `view::first_members`: before process i has its turn, those before it have had theirs.
+use Rattle.std.proofs.Common.{◌≡◌, ◌-◌}
 use Rattle.view.specs.Logic.{each_up_to}
 use Rattle.view.specs.View.{joined}
 use Rattle.view.proofs.first_of.Given as goal
 
 abbrev pub invariant-loop-i : goal.invariant-loop-i
-invariant-loop-i l = (l.i ≤ 8) × (l.set ≡ each_up_to l.i (joined l.m l.view) 0)
-
-abbrev pub decreases-loop-i : goal.decreases-loop-i
-decreases-loop-i l = 8 - l.i
+invariant-loop-i l = l.set ≡ each_up_to (l.i - 1) (joined l.m l.view) 0

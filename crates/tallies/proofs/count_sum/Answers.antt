@@ -1,9 +1,0 @@
--- `tallies::count_sum`: by whether there is room for the sum.
-use native.Mathlib.Omega.{arith}
-use Rattle.tallies.proofs.count_sum.Goals as goal
-
-pub returns-then-a-b : goal.returns-then-a-b
-returns-then-a-b c = omega arith
-
-pub returns-else-a-b : goal.returns-else-a-b
-returns-else-a-b c = omega arith
