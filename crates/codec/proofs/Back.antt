@@ -12,18 +12,16 @@ use Rattle.view.specs.Logic.{pick}
 use Rattle.view.proofs.Laws.{Each, each_as}
 use Rattle.channel.specs.declared.Message.{Message}
 use Rattle.channel.specs.declared.Message.TheVariants.{Propose, Retry, Acc, Commit}
-use Rattle.channel.specs.declared.Slot.{Slot}
 use Rattle.channel.specs.declared.Channel.{Channel}
-use Rattle.system.specs.declared.Pending.{Pending}
-use Rattle.system.specs.declared.Pending.TheVariants.{Nothing, Proposal}
-use Rattle.system.specs.declared.PendingSlot.{PendingSlot}
 use Rattle.system.specs.declared.Variables.{Variables}
 use Rattle.system.specs.declared.Process.{Process}
 use Rattle.system.specs.declared.System.{System}
 use Rattle.system.specs.Fresh.{fresh_system}
-use Rattle.image.specs.Image.{message_width, length_place, channel_width, record_width, variables_width, process_width, trust_place, image_width, concatenated, message_bytes, slot_bytes, channel_bytes, pending_bytes, record_bytes, variables_bytes, process_bytes, encoded, rows, byte, message_of, slot_in, channel_in, pending_of, record_in, history_in, variables_of, variables_in, process_in, decoded, system_in}
+use Rattle.image.specs.Image.{message_width, length_place, channel_width, record_width, variables_width, process_width, trust_place, image_width, concatenated, message_bytes, channel_bytes, pending_bytes, variables_bytes, process_bytes, encoded, rows, byte, message_of, slot_in, channel_in, pending_of, record_in, history_in, variables_of, variables_in, process_in, decoded, system_in}
 use Rattle.codec.proofs.Laws.{one_byte, bytes-concatenated}
 use Rattle.codec.proofs.Lengths.{ProcessLengths, ChannelLengths, Lengths}
+use Rattle.system.specs.Process.{Pending}
+use Rattle.std.specs.Prelude.{None, Some}
 
 -- ---- rows
 -- x is written in w bytes, and is read back from them, whatever follows
@@ -56,36 +54,28 @@ each P h [] = tt
 each P h (x ∷ xs) = (h x, each P h xs)
 
 -- ---- a channel
-message_row : (m : Message) → Row message_width message_bytes (λ b. message_of (byte 0 b) (byte 1 b) (byte 2 b)) m
-unfolding message_of message_bytes pick
-message_row (Propose v i) = record { long = refl; back = λ rest. refl }
-message_row (Retry i j) = record { long = refl; back = λ rest. refl }
-message_row (Acc i) = record { long = refl; back = λ rest. refl }
-message_row (Commit v i) = record { long = refl; back = λ rest. refl }
-
-slot_row : (s : Slot) → Row message_width slot_bytes slot_in s
-unfolding slot_bytes slot_in
-slot_row s = record { long = (message_row s.message).long; back = λ rest. rw ((message_row s.message).back rest) }
+slot_row : (m : Message) → Row message_width message_bytes slot_in m
+unfolding slot_in message_of message_bytes pick
+slot_row (Propose v i) = record { long = refl; back = λ rest. refl }
+slot_row (Retry i j) = record { long = refl; back = λ rest. refl }
+slot_row (Acc i) = record { long = refl; back = λ rest. refl }
+slot_row (Commit v i) = record { long = refl; back = λ rest. refl }
 
 channel_row : (c : Channel) → ChannelLengths c → Row channel_width channel_bytes channel_in c
 unfolding channel_bytes channel_in
 channel_row c l =
-    let slots = all_rows message_width slot_bytes slot_in 8 c.slots l.slots (each _ slot_row c.slots) in
-    let b = concatenated slot_bytes c.slots in
+    let slots = all_rows message_width message_bytes slot_in 8 c.slots l.slots (each _ slot_row c.slots) in
+    let b = concatenated message_bytes c.slots in
     record {
       long = length-append b (c.len ∷ []) ∙ rw slots.long;
       back = λ rest. rw (append_assoc b (c.len ∷ []) rest, slots.back (c.len ∷ rest), get_or_at b c.len rest 0 length_place slots.long);
     }
 
 -- ---- a process
-pending_row : (x : Pending) → Row record_width pending_bytes (λ b. pending_of (byte 0 b) (byte 1 b) (byte 2 b)) x
-unfolding pending_of pending_bytes pick
-pending_row Nothing = record { long = refl; back = λ rest. refl }
-pending_row (Proposal v i) = record { long = refl; back = λ rest. refl }
-
-record_row : (s : PendingSlot) → Row record_width record_bytes record_in s
-unfolding record_bytes record_in
-record_row s = record { long = (pending_row s.pending).long; back = λ rest. rw ((pending_row s.pending).back rest) }
+record_row : (x : Pending) → Row record_width pending_bytes record_in x
+unfolding record_in pending_of pending_bytes pick
+record_row None = record { long = refl; back = λ rest. refl }
+record_row (Some r) = record { long = refl; back = λ rest. refl }
 
 byte_row : (x : ℕ) → Row 1 one_byte (byte 0) x
 byte_row x = record { long = refl; back = λ rest. refl }
@@ -106,10 +96,10 @@ process_row : (x : Process) → ProcessLengths x → Row process_width process_b
 unfolding process_bytes process_in history_in variables_bytes
 process_row x l =
     let variables = variables_row x.variables in
-    let records = all_rows record_width record_bytes record_in 8 x.pending l.pending (each _ record_row x.pending) in
+    let records = all_rows record_width pending_bytes record_in 8 x.pending l.pending (each _ record_row x.pending) in
     let entries = all_rows 1 one_byte (byte 0) 32 x.history.entries l.entries (each _ byte_row x.history.entries) in
     let a = variables_bytes x.variables in
-    let b = concatenated record_bytes x.pending in
+    let b = concatenated pending_bytes x.pending in
     let h = x.history.entries in
     record {
       long = length-append (a ++ b) h ∙ rw (length-append a b, records.long, l.entries);

@@ -9,32 +9,22 @@ ghost use Rattle.fresh.specs.Fresh.{blank_system, with_fresh};
 
 use image::{IMAGE, put_entry, put_variables};
 use system::Variables;
-use view::{GroupIndex, ProcessId, everyone};
+use view::{GroupIndex, ProcessId};
 
 // Every byte becomes 0, but the first.
 fn put_blank(image: &mut [u8], n: u8)
     requires { length image.old ≡ image_width }
     ensures { system_in image.new ≡ blank_system n }
 {
-    let mut i: usize = 0;
-    while i < IMAGE {
-        image[i] = 0;
-        i += 1;
-    }
+    image.fill(0);
     image[0] = n;
 }
 
+#[tactic(auto, unfolding(crate::specs::Fresh::with_fresh))]
 fn put_process(image: &mut [u8], n: u8, p: ProcessId)
     ensures { system_in image.new ≡ with_fresh n p.0 (system_in image.old) }
 {
-    let x = Variables {
-        crashed: false,
-        view: everyone(n),
-        next: GroupIndex(2),
-        propout: GroupIndex(1),
-        proposal: 0,
-        acks: 0,
-    };
+    let x = Variables::fresh(n);
     put_variables(image, p, x);
     put_entry(image, p, GroupIndex(1), x.view);
 }
@@ -45,9 +35,7 @@ pub fn put_fresh(image: &mut [u8], n: u8)
 {
     if image.len() == IMAGE {
         put_blank(image, n);
-        let mut p: u8 = 0;
-        while p < 8 {
-            p += 1;
+        for p in 1..=8 {
             put_process(image, n, ProcessId(p));
         }
     }

@@ -2,4 +2,3 @@ pub mod Laws
 pub mod Parts
 pub mod Changes
 pub mod Shape
-pub mod Becoming

@@ -1,7 +1,7 @@
 -- The system that bytes hold has the shape that the program's types say: whatever the bytes, each channel has eight slots, each
 -- process eight records and thirty-two entries.
 use Prim.Native.Nat.{ℕ, zero, suc}
-use mathlib.Core.Path.{◌≡◌, refl, ap}
+use mathlib.Core.Path.{◌≡◌, refl}
 use mathlib.Core.List.{List, []}
 use lib.ListN.{length, drop}
 use Rattle.view.specs.Logic.{at}
@@ -11,12 +11,8 @@ use Rattle.channel.specs.Channel.{empty_channel}
 use Rattle.system.specs.declared.Process.{Process}
 use Rattle.system.specs.declared.System.{System}
 use Rattle.system.specs.System.{no_process, process_at, channel_number, channel_at}
+pub use Rattle.image.proofs.Laws.{rows_long}
 use Rattle.image.specs.Image.{rows, slot_in, channel_in, record_in, history_in, process_in, byte, decoded, no_system, system_in, process_width, channel_width, processes_place, channels_place}
-
-pub rows_long : {A : Type 0} (n w : ℕ) (f : List ℕ → A) (b : List ℕ) → length (rows n w f b) ≡ n
-unfolding rows
-rows_long zero w f b = refl
-rows_long (suc n) w f b = ap suc (rows_long n w f (drop w b))
 
 -- what is so of every row that can be read is so of each row
 pub each_row : {A : Type 0} (P : A → Type 0) (n w : ℕ) (f : List ℕ → A) (b : List ℕ) (k : ℕ) (d : A) → ((c : List ℕ) → P (f c)) → P d

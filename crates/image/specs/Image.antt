@@ -1,20 +1,15 @@
 -- The image of a system: 2,105 bytes, in which it is kept. One byte is n; eight processes of 62 bytes follow, then sixty-four channels
 -- of 25 bytes, and eight sets of trust of one byte. docs/IMAGE.md has the layout as a table.
-use Rattle.std.specs.Prelude.{ℕ, zero, suc, ◌+◌, ◌*◌, ◌≡◌, List, [], ◌∷◌, ◌++◌, eqb, leb, length, get_or, drop}
+use Rattle.std.specs.Prelude.{ℕ, zero, suc, ◌+◌, ◌*◌, ◌≡◌, List, [], ◌∷◌, ◌++◌, eqb, leb, length, get_or, drop, None, Some}
 use Rattle.view.specs.Logic.{pick}
 use Rattle.channel.specs.declared.Message.{Message}
 use Rattle.channel.specs.declared.Message.TheVariants.{Propose, Retry, Acc, Commit}
-use Rattle.channel.specs.declared.Slot.{Slot}
 use Rattle.channel.specs.declared.Channel.{Channel}
-use Rattle.channel.specs.Channel.{slot}
 use Rattle.system.specs.declared.History.{History}
-use Rattle.system.specs.declared.Pending.{Pending}
-use Rattle.system.specs.declared.Pending.TheVariants.{Nothing, Proposal}
-use Rattle.system.specs.declared.PendingSlot.{PendingSlot}
 use Rattle.system.specs.declared.Variables.{Variables}
 use Rattle.system.specs.declared.Process.{Process}
 use Rattle.system.specs.declared.System.{System}
-use Rattle.system.specs.Process.{index, pending_slot}
+use Rattle.system.specs.Process.{index, Pending, proposal_of}
 
 -- ---- how many bytes each part has, and where it begins in the part that holds it
 abbrev pub message_width : ℕ
@@ -66,24 +61,18 @@ message_bytes (Retry old new) = 1 ∷ old.0 ∷ new.0 ∷ []
 message_bytes (Acc i) = 2 ∷ i.0 ∷ 0 ∷ []
 message_bytes (Commit v i) = 3 ∷ v ∷ i.0 ∷ []
 
-unfoldable pub slot_bytes : Slot → List ℕ
-slot_bytes s = message_bytes s.message
-
 unfoldable pub channel_bytes : Channel → List ℕ
-channel_bytes c = concatenated slot_bytes c.slots ++ (c.len ∷ [])
+channel_bytes c = concatenated message_bytes c.slots ++ (c.len ∷ [])
 
 unfoldable pub pending_bytes : Pending → List ℕ
-pending_bytes Nothing = 0 ∷ 0 ∷ 0 ∷ []
-pending_bytes (Proposal v i) = 1 ∷ v ∷ i.0 ∷ []
-
-unfoldable pub record_bytes : PendingSlot → List ℕ
-record_bytes s = pending_bytes s.pending
+pending_bytes None = 0 ∷ 0 ∷ 0 ∷ []
+pending_bytes (Some r) = 1 ∷ r.view ∷ r.index.0 ∷ []
 
 unfoldable pub variables_bytes : Variables → List ℕ
 variables_bytes x = pick x.crashed 1 0 ∷ x.view ∷ x.next.0 ∷ x.propout.0 ∷ x.proposal ∷ x.acks ∷ []
 
 unfoldable pub process_bytes : Process → List ℕ
-process_bytes x = variables_bytes x.variables ++ concatenated record_bytes x.pending ++ x.history.entries
+process_bytes x = variables_bytes x.variables ++ concatenated pending_bytes x.pending ++ x.history.entries
 
 unfoldable pub encoded : System → List ℕ
 encoded s = (s.n ∷ []) ++ concatenated process_bytes s.processes ++ concatenated channel_bytes s.channels ++ s.trust
@@ -106,18 +95,18 @@ message_of tag x y =
     (pick (eqb tag 2) (Acc (index x))
     (pick (eqb tag 3) (Commit x (index y)) (Acc (index 0)))))
 
-unfoldable pub slot_in : List ℕ → Slot
-slot_in b = slot (message_of (byte 0 b) (byte 1 b) (byte 2 b))
+unfoldable pub slot_in : List ℕ → Message
+slot_in b = message_of (byte 0 b) (byte 1 b) (byte 2 b)
 
 unfoldable pub channel_in : List ℕ → Channel
 channel_in b = record { slots = rows 8 message_width slot_in b; len = byte length_place b }
 
 -- a tag that stands for nothing is read as a proposal at index 0, which is not sound
 unfoldable pub pending_of : ℕ → ℕ → ℕ → Pending
-pending_of tag x y = pick (eqb tag 0) Nothing (pick (eqb tag 1) (Proposal x (index y)) (Proposal 0 (index 0)))
+pending_of tag x y = pick (eqb tag 0) None (pick (eqb tag 1) (Some (proposal_of x (index y))) (Some (proposal_of 0 (index 0))))
 
-unfoldable pub record_in : List ℕ → PendingSlot
-record_in b = pending_slot (pending_of (byte 0 b) (byte 1 b) (byte 2 b))
+unfoldable pub record_in : List ℕ → Pending
+record_in b = pending_of (byte 0 b) (byte 1 b) (byte 2 b)
 
 unfoldable pub history_in : List ℕ → History
 history_in b = record { entries = rows 32 1 (byte 0) b }

@@ -1,3 +1,3 @@
 -- The image of a system in bytes.
 pub mod Image
-pub mod Rows
+pub mod Places

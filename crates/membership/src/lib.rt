@@ -1,39 +1,34 @@
 // The typed library: a step on a system by value. Each is the engine's, between encoding and decoding.
 #![tactic(auto)]
 
-ghost use Rattle.std.specs.Prelude.{◌≡◌, length};
+ghost use Rattle.std.specs.Prelude.{◌≡◌};
+ghost use Rattle.system.specs.Outcome.{outcome_of};
 ghost use Rattle.plan.specs.declared.Action.{Action};
 ghost use Rattle.plan.specs.Cut.{whole};
 ghost use Rattle.step.specs.Step.{stepped};
-ghost use Rattle.image.specs.Image.{image_width};
-ghost use Rattle.settle.specs.Settle.{settled};
+ghost use Rattle.settle.specs.Settle.{settled, settled_of};
 
+use image::blank_image;
 use plan::{Action, Cut, Step};
-use settle::Settled;
-use system::{Outcome, System};
+use settle::SettledSystem;
+use system::{Refused, System};
 use view::ProcessId;
 
-// The bytes for an image.
-fn image_buffer() -> [u8; 2105]
-    ensures { length result ≡ image_width }
-{
-    [0; 2105]
-}
-
 // One step of any kind, whole or cut.
-pub fn perform(s: System, o: Step) -> Outcome
-    ensures { result ≡ stepped s o }
+pub fn perform(s: System, o: Step) -> Result<System, Refused>
+    ensures { outcome_of result ≡ stepped s o }
 {
-    let mut image = image_buffer();
+    let mut image = blank_image();
     codec::encode(s, &mut image);
-    let refusal = engine::perform(&mut image, o);
-    let system = codec::decode(&image);
-    Outcome { refusal, system }
+    match engine::perform(&mut image, o) {
+        Ok(()) => Ok(codec::decode(&image)),
+        Err(refusal) => Err(Refused { refusal, system: s }),
+    }
 }
 
 // What a process does in a step that is not cut.
-fn perform_whole(s: System, o: Action) -> Outcome
-    ensures { result ≡ stepped s (whole o) }
+fn perform_whole(s: System, o: Action) -> Result<System, Refused>
+    ensures { outcome_of result ≡ stepped s (whole o) }
 {
     perform(
         s,
@@ -45,46 +40,45 @@ fn perform_whole(s: System, o: Action) -> Outcome
 }
 
 // Process p is told its view.
-pub fn report(s: System, p: ProcessId, view: u8) -> Outcome
-    ensures { result ≡ stepped s (whole (Action.Report p view)) }
+pub fn report(s: System, p: ProcessId, view: u8) -> Result<System, Refused>
+    ensures { outcome_of result ≡ stepped s (whole (Action.Report p view)) }
 {
     perform_whole(s, Action::Report(p, view))
 }
 
 // Process p takes the oldest message from process q.
-pub fn receive(s: System, q: ProcessId, p: ProcessId) -> Outcome
-    ensures { result ≡ stepped s (whole (Action.Receive q p)) }
+pub fn receive(s: System, q: ProcessId, p: ProcessId) -> Result<System, Refused>
+    ensures { outcome_of result ≡ stepped s (whole (Action.Receive q p)) }
 {
     perform_whole(s, Action::Receive(q, p))
 }
 
 // Process p answers the proposal that it recorded from process q.
-pub fn respond(s: System, p: ProcessId, q: ProcessId) -> Outcome
-    ensures { result ≡ stepped s (whole (Action.Respond p q)) }
+pub fn respond(s: System, p: ProcessId, q: ProcessId) -> Result<System, Refused>
+    ensures { outcome_of result ≡ stepped s (whole (Action.Respond p q)) }
 {
     perform_whole(s, Action::Respond(p, q))
 }
 
 // Process p stops for good.
-pub fn crash(s: System, p: ProcessId) -> Outcome
-    ensures { result ≡ stepped s (whole (Action.Crash p)) }
+pub fn crash(s: System, p: ProcessId) -> Result<System, Refused>
+    ensures { outcome_of result ≡ stepped s (whole (Action.Crash p)) }
 {
     perform_whole(s, Action::Crash(p))
 }
 
 // The settling run: takes and answers, until a whole round of them does nothing.
-pub fn settle(s: System) -> Settled
-    ensures { result ≡ settled 7936 s }
+pub fn settle(s: System) -> Result<SettledSystem, Refused>
+    ensures { settled_of result ≡ settled 7936 s }
 {
-    let mut image = image_buffer();
+    let mut image = blank_image();
     codec::encode(s, &mut image);
-    let run = settle::settle(&mut image);
-    let system = codec::decode(&image);
-    let ending = run.ending;
-    Settled {
-        refusal: run.refusal,
-        steps: run.steps,
-        ending,
-        system,
+    match settle::settle(&mut image) {
+        Ok(run) => Ok(SettledSystem {
+            steps: run.steps,
+            ending: run.ending,
+            system: codec::decode(&image),
+        }),
+        Err(refusal) => Err(Refused { refusal, system: s }),
     }
 }

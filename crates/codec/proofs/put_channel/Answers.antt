@@ -1,19 +1,19 @@
--- `codec::put_channel`: after i turns its first i slots are written; then its length.
-use native.Mathlib.Omega.{arith}
+-- `codec::put_channel`: message by message; then the length.
+use Rattle.std.proofs.Common.{◌≡◌, length, arith, rules}
 use Rattle.view.proofs.Laws.{long}
-use Rattle.image.specs.Image.{slot_bytes, channel_bytes}
+use Rattle.image.specs.Image.{channel_bytes}
 use Rattle.codec.proofs.Laws.{none_written, write_more, all_written, one-put, and_then}
-use borrow.Author.Rules.{rules}
 use Rattle.codec.proofs.put_channel.Goals as goal
 
 pub loop-i-init : goal.loop-i-init
-loop-i-init c = none_written (search long)
+loop-i-init c = none_written
 
 pub loop-i-preserved : goal.loop-i-preserved
-unfolding slot_bytes
 loop-i-preserved c =
-    write_more _ c.loop-i.invariant (rw c.message_bytes.ensures at c.put_three.ensures) (omega arith) (omega arith) (omega arith) (omega arith)
+    let slots : length c.args.c.slots ≡ 8 = search long in
+    write_more _ c.loop-i.invariant (rw c.message_bytes.ensures at c.put_bytes.ensures) (omega arith) c.put_bytes.auto.image (omega arith) (omega arith)
 
 pub returns : goal.returns
 unfolding channel_bytes
-returns c = and_then _ (all_written c.loop-i.invariant (omega arith)) (one-put c.loop-i.image _ _ (search rules)) (omega arith) (omega arith)
+returns c =
+    and_then _ (all_written {n = 8} c.loop-i.invariant (search long) (omega arith)) (one-put c.loop-i.image _ _ (search rules)) (omega arith) (omega arith)

@@ -1,11 +1,8 @@
--- `codec::put_process`: its variables, then after i turns its first i records, then its history.
-use Prim.Native.Nat.{◌+◌, ◌-◌}
-use Rattle.image.specs.Image.{record_width, records_place, record_bytes}
+-- `codec::put_process`: what is recorded from the processes before the one at i is written.
+use Rattle.std.proofs.Common.{◌+◌}
+use Rattle.image.specs.Image.{record_width, records_place, pending_bytes}
 use Rattle.codec.proofs.Laws.{Written}
 use Rattle.codec.proofs.put_process.Given as goal
 
 abbrev pub invariant-loop-i : goal.invariant-loop-i
-invariant-loop-i l = Written 8 record_width (l.at + records_place) record_bytes l.p.pending l.initial.image l.image l.i
-
-abbrev pub decreases-loop-i : goal.decreases-loop-i
-decreases-loop-i l = 8 - l.i
+invariant-loop-i l = Written record_width (l.at + records_place) pending_bytes l.proposal-items l.initial.image l.image l.i

@@ -1,20 +1,25 @@
--- `codec::read_process`: after i turns the first i records are read.
-use mathlib.Core.Path.{refl}
-use native.Mathlib.Omega.{arith}
-use lib.Seq.{drop-drop}
-use Rattle.image.specs.Image.{records_place, history_place, process_in}
-use Rattle.codec.proofs.Laws.{record_read, none_read, read_more, all_read}
+-- `codec::read_process`: the variables, record by record, and the history.
+use Rattle.std.proofs.Common.{◌+◌, ◌*◌, None, rules, take, drop, length, ◌≤◌, arith, length-drop, drop-drop}
+use Rattle.image.specs.Image.{record_width, records_place, history_place, record_in, history_in, process_in}
+use Rattle.image.proofs.Laws.{of_taken}
+use Rattle.image.proofs.Parts.{variables_local, record_local}
+use Rattle.codec.proofs.Laws.{rows_made, bytes_rows}
 use Rattle.codec.proofs.read_process.Goals as goal
 
-pub loop-i-init : goal.loop-i-init
-loop-i-init c = none_read refl
-
-pub loop-i-preserved : goal.loop-i-preserved
-loop-i-preserved c =
-    read_more c.loop-i.invariant (record_read c.read_three.result _ c.pending_of-p.ensures c.read_three.ensures) (omega arith)
-
 pub returns : goal.returns
-unfolding process_in
+unfolding process_in history_in
 returns c =
-    let a = c.args in
-    rw (all_read c.loop-i.invariant (omega arith), c.read_variables-variables.ensures, c.read_history-history.ensures, drop-drop records_place a.at a.image.now, drop-drop history_place a.at a.image.now)
+    let b = c.args.image.now in
+    let at = c.args.at in
+    let room : 32 ≤ length (drop (at + history_place) b) = simp length-drop (omega arith) in
+    rw (
+      c.variables_of.ensures,
+      c.bytes_at.ensures,
+      of_taken variables_local (drop at b),
+      rows_made _ _ c.from_fn.result (λ i. record_in (take record_width (drop (at + records_place + record_width * i) b))) (λ i x q k. search rules)
+          8 record_width (at + records_place) record_in b None c.from_fn.ensures.items (λ i. of_taken record_local _),
+      drop-drop records_place at b,
+      c.bytes_at-2.ensures,
+      drop-drop history_place at b,
+      bytes_rows 32 (drop (at + history_place) b) room,
+    )

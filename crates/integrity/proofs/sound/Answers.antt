@@ -1,26 +1,27 @@
--- `integrity::sound`: after i turns the flag says whether the first i processes and the channels that they send on are sound.
-use mathlib.Core.Path.{◌≡◌}
-use mathlib.Core.Bool.{true}
-use native.Mathlib.Omega.{arith}
+-- `integrity::sound`: process by process.
+use Rattle.std.proofs.Common.{◌≤◌, true, refl, arith, le-leb}
+use Rattle.image.specs.Image.{system_in}
+use Rattle.view.specs.Logic.{all_up_to}
+use Rattle.view.proofs.Laws.{tested_turn, tested_last}
 use Rattle.sound.specs.Sound.{sound_system}
-use Rattle.view.proofs.Laws.{tested_up_to, none_tested, one_more}
 use Rattle.integrity.proofs.sound.Goals as goal
 
 pub loop-i-init : goal.loop-i-init
-loop-i-init c = (omega arith, none_tested true _)
+unfolding all_up_to
+loop-i-init c = record { within = omega arith; so_far = refl }
 
 pub loop-i-preserved : goal.loop-i-preserved
 loop-i-preserved c =
-    let i = c.loop-i.invariant in
-    (omega arith, one_more true _ _ _ _ _ i.1 c.and-ok.ensures c.sound_sender.ensures)
+    record {
+      within = omega arith;
+      so_far = tested_turn true _ _ c.size-n.result _ c.loop-i.invariant.so_far _ c.loop-i.auto.i c.sound_sender-ok.ensures;
+    }
 
-pub returns-after-loop-i : goal.returns-after-loop-i
-unfolding sound_system tested_up_to
-returns-after-loop-i c =
-    let l = c.loop-i in
-    let end : l.i ≡ c.size-n.result = omega arith in
-    simp (rw end at l.invariant.1, ← c.size-n.ensures, ← c.and.ensures, c.if-and.true)
-
-pub returns-else-and : goal.returns-else-and
+pub returns-else-n-gt8-2 : goal.returns-else-n-gt8-2
 unfolding sound_system
-returns-else-and c = simp (← c.size-n.ensures, ← c.and.ensures, c.if-and.false)
+returns-else-n-gt8-2 c =
+    let n = c.size-n.ensures in
+    let low : 1 ≤ (system_in c.args.image.now).n = omega arith in
+    let high : (system_in c.args.image.now).n ≤ 8 = omega arith in
+    rw (le-leb 1 _ low, le-leb _ 8 high)
+    (rw n at (tested_last true _ _ c.size-n.result _ c.loop-i.invariant.so_far _ c.loop-i.auto.i c.sound_sender-ok.ensures c.loop-i-test.true (omega arith)))

@@ -1,14 +1,9 @@
--- `integrity::sound`: after i turns the flag says whether the first i processes and the channels that they send on are sound.
-use Prim.Native.Nat.{◌-◌, ◌≤◌}
-use mathlib.Core.Path.{◌≡◌}
-use mathlib.Core.Bool.{true}
+-- `integrity::sound`: before process i has its turn, the flag says whether those before it and the channels that they send on are sound.
+use Rattle.std.proofs.Common.{◌≡◌, ◌≤◌, ◌+◌, ◌-◌}
+use Rattle.view.specs.Logic.{all_up_to}
 use Rattle.sound.specs.Sound.{sound_at}
 use Rattle.image.specs.Image.{system_in}
-use Rattle.view.proofs.Laws.{tested_up_to}
 use Rattle.integrity.proofs.sound.Given as goal
 
 abbrev pub invariant-loop-i : goal.invariant-loop-i
-invariant-loop-i l = (l.i ≤ l.n) × (l.ok ≡ tested_up_to true (sound_at (system_in l.image)) l.i)
-
-abbrev pub decreases-loop-i : goal.decreases-loop-i
-decreases-loop-i l = l.n - l.i
+invariant-loop-i l = record { within : l.i ≤ l.n + 1; so_far : l.ok ≡ all_up_to (l.i - 1) (sound_at (system_in l.image)) }

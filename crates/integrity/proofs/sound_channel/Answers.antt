@@ -1,32 +1,38 @@
--- `integrity::sound_channel`: after i turns the flag says whether the first i messages are sound.
-use mathlib.Core.Path.{◌≡◌, ◌∙◌}
-use native.Mathlib.Omega.{arith}
-use borrow.Author.Tests.{lt-leb}
+-- `integrity::sound_channel`: message by message.
+use Rattle.std.proofs.Common.{◌≡◌, ◌≤◌, ◌-◌, ◌+◌, length, arith, ◌∙◌, sym}
 use Rattle.system.specs.System.{channel_at}
-use Rattle.sound.specs.Sound.{sound_channel}
 use Rattle.image.specs.Image.{system_in}
 use Rattle.image.proofs.Shape.{slots_long}
-use Rattle.integrity.proofs.Laws.{message_none, message_again, message_all}
+use Rattle.integrity.proofs.Laws.{message_none, message_turn, message_all, long_channel}
 use Rattle.integrity.proofs.sound_channel.Goals as goal
 
+pub returns-then-len-gt8 : goal.returns-then-len-gt8
+returns-then-len-gt8 c = sym (long_channel _ _ _ _ _ (omega (arith, c.length_at-len.ensures)))
+
 pub loop-i-init : goal.loop-i-init
-loop-i-init c =
-    (omega arith, c.length_at-len.ensures, omega arith, c.or-ok.ensures ∙ rw c.length_at-len.ensures (message_none _ _ _ _ _))
+loop-i-init c = record { within = omega arith; so_far = rw c.length_at-len.ensures (message_none _ _ _ _ _) }
 
 pub loop-i-preserved : goal.loop-i-preserved
 loop-i-preserved c =
-    let i = c.loop-i.invariant in
     let a = c.args in
-    (omega arith, i.1, i.2, message_again _ _ _ _ _ _ _ _ _ (rw (slots_long a.image.now a.q.0 a.p.0) (omega arith)) i.3 c.and-ok.ensures (rw (← c.message_at.ensures) c.sound_message.ensures))
+    let room : c.loop-i.i ≤ length (channel_at (system_in a.image.now) a.q.0 a.p.0).slots = rw (slots_long a.image.now a.q.0 a.p.0) (omega arith) in
+    let next : c.loop-i.i + 1 - 1 ≡ c.loop-i.i = omega arith in
+    record {
+      within = omega arith;
+      so_far = rw next (message_turn _ _ _ _ _ _ _ _ c.loop-i.auto.i room c.loop-i.invariant.so_far (rw c.message_at.ensures at c.sound_message-ok.ensures));
+    }
 
-pub returns-after-loop-i : goal.returns-after-loop-i
-returns-after-loop-i c =
-    let i = c.loop-i.invariant in
+pub returns-else-len-gt8 : goal.returns-else-len-gt8
+returns-else-len-gt8 c =
+    let d = channel_at (system_in c.args.image.now) c.args.q.0 c.args.p.0 in
+    let end : c.loop-i.i - 1 ≡ d.len = omega (arith, c.length_at-len.ensures) in
+    rw end at c.loop-i.invariant.so_far ∙ message_all _ _ _ _ d (omega (arith, c.length_at-len.ensures))
+
+pub returns-else-len-gt8-2 : goal.returns-else-len-gt8-2
+returns-else-len-gt8-2 c =
     let a = c.args in
     let d = channel_at (system_in a.image.now) a.q.0 a.p.0 in
-    let end : c.loop-i.i ≡ d.len = omega arith in
-    rw end at i.3 ∙ message_all _ _ _ _ d (omega arith)
-
-pub returns-else-len-le8 : goal.returns-else-len-le8
-unfolding sound_channel
-returns-else-len-le8 c = simp (← c.length_at-len.ensures, lt-leb _ _ c.if-len-le8.false)
+    let room : c.loop-i.i ≤ length d.slots = rw (slots_long a.image.now a.q.0 a.p.0) (omega arith) in
+    let end : c.loop-i.i ≡ d.len = omega (arith, c.length_at-len.ensures) in
+    rw end at (message_turn _ _ _ _ _ _ _ _ c.loop-i.auto.i room c.loop-i.invariant.so_far (rw c.message_at.ensures at c.sound_message-ok.ensures))
+    ∙ message_all _ _ _ _ d (omega (arith, c.length_at-len.ensures))

@@ -1,6 +1,5 @@
--- `integrity::sound_channel`: after i turns the flag says whether the first i messages are sound.
-use Prim.Native.Nat.{◌-◌, ◌≤◌}
-use mathlib.Core.Path.{◌≡◌}
+-- `integrity::sound_channel`: before message i has its turn, the flag says whether those before it are sound.
+use Rattle.std.proofs.Common.{◌≡◌, ◌≤◌, ◌+◌, ◌-◌}
 use Rattle.system.specs.System.{channel_at}
 use Rattle.image.specs.Image.{system_in}
 use Rattle.integrity.proofs.Laws.{sound_so_far}
@@ -8,7 +7,7 @@ use Rattle.integrity.proofs.sound_channel.Given as goal
 
 abbrev pub invariant-loop-i : goal.invariant-loop-i
 invariant-loop-i l =
-    (l.i ≤ l.len) × (l.len ≡ (channel_at (system_in l.image) l.q.0 l.p.0).len) × (l.len ≤ 8) × (l.ok ≡ sound_so_far l.n l.crashed l.q.0 l.p.0 (channel_at (system_in l.image) l.q.0 l.p.0) l.i)
-
-abbrev pub decreases-loop-i : goal.decreases-loop-i
-decreases-loop-i l = l.len - l.i
+    record {
+      within : l.i ≤ l.len + 1;
+      so_far : l.ok ≡ sound_so_far l.n l.crashed l.q.0 l.p.0 (channel_at (system_in l.image) l.q.0 l.p.0) (l.i - 1);
+    }

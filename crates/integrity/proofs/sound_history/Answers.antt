@@ -1,22 +1,18 @@
--- `integrity::sound_history`: after i turns the flag says whether the first i entries are within n.
-use mathlib.Core.Path.{◌≡◌}
-use mathlib.Core.Bool.{true}
-use native.Mathlib.Omega.{arith}
+-- `integrity::sound_history`: entry by entry.
+use Rattle.std.proofs.Common.{true, refl, arith}
+use Rattle.view.specs.Logic.{all_up_to}
+use Rattle.view.proofs.Laws.{tested_turn, tested_all}
 use Rattle.sound.specs.Sound.{sound_history}
-use Rattle.view.proofs.Laws.{tested_up_to, none_tested, one_more}
 use Rattle.integrity.proofs.sound_history.Goals as goal
 
 pub loop-i-init : goal.loop-i-init
-loop-i-init c = (omega arith, none_tested true _)
+unfolding all_up_to
+loop-i-init c = refl
 
 pub loop-i-preserved : goal.loop-i-preserved
 loop-i-preserved c =
-    let i = c.loop-i.invariant in
-    (omega arith, one_more true _ _ _ _ _ i.1 c.and-ok.ensures (rw c.entry_at.ensures at c.within.ensures))
+    tested_turn true _ _ 32 _ c.loop-i.invariant _ c.loop-i.auto.i (rw c.entry_at.ensures at c.within-ok.ensures)
 
 pub returns : goal.returns
-unfolding sound_history tested_up_to
-returns c =
-    let l = c.loop-i in
-    let end : l.i ≡ 32 = omega arith in
-    simp (c.and.ensures, c.entry_at-2.ensures, rw end at l.invariant.1)
+unfolding sound_history
+returns c = rw (← tested_all true _ _ 32 _ c.loop-i.invariant (omega arith) c.loop-i-test.false, c.entry_at-2.ensures)

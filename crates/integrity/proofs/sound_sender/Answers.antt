@@ -1,23 +1,30 @@
--- `integrity::sound_sender`: after i turns the flag says whether the process and its channels to the first i are sound.
-use mathlib.Core.Path.{◌≡◌, ◌∙◌}
-use native.Mathlib.Omega.{arith}
+-- `integrity::sound_sender`: the process, and channel by channel.
+use Rattle.std.proofs.Common.{arith, sym}
+use mathlib.Core.Bool.{and-true}
+use Rattle.view.specs.Logic.{all_up_to}
+use Rattle.view.proofs.Laws.{tested_turn, tested_last, tested_all}
 use Rattle.sound.specs.Sound.{sound_channel_at, sound_at}
-use Rattle.image.specs.Image.{system_in}
-use Rattle.view.proofs.Laws.{tested_up_to, none_tested, one_more}
 use Rattle.integrity.proofs.sound_sender.Goals as goal
 
 pub loop-i-init : goal.loop-i-init
-loop-i-init c = (omega arith, c.size-n.ensures, c.sound_process-ok.ensures ∙ none_tested _ _)
+unfolding all_up_to
+loop-i-init c = record { within = omega arith; so_far = rw (c.sound_process-ok.ensures, c.size-n.ensures) (sym (and-true _)) }
 
 pub loop-i-preserved : goal.loop-i-preserved
 unfolding sound_channel_at
 loop-i-preserved c =
-    let i = c.loop-i.invariant in
-    (omega arith, i.1, one_more _ _ _ _ _ _ i.2 c.and-ok.ensures (rw i.1 at c.sound_channel_at.ensures))
+    record {
+      within = omega arith;
+      so_far = tested_turn _ _ _ c.size-n.result _ c.loop-i.invariant.so_far _ c.loop-i.auto.i (rw c.size-n.ensures at c.sound_channel_at-ok.ensures);
+    }
 
 pub returns : goal.returns
-unfolding sound_at tested_up_to
+unfolding sound_at
 returns c =
-    let l = c.loop-i in
-    let end : l.i ≡ (system_in c.args.image.now).n = omega (arith, l.invariant.1) in
-    rw (end, l.invariant.1) at l.invariant.2
+    rw c.size-n.ensures at (tested_all _ _ _ _ _ c.loop-i.invariant.so_far c.loop-i.invariant.within c.loop-i-test.false)
+
+pub returns-2 : goal.returns-2
+unfolding sound_channel_at sound_at
+returns-2 c =
+    rw c.size-n.ensures at
+    (tested_last _ _ _ c.size-n.result _ c.loop-i.invariant.so_far _ c.loop-i.auto.i (rw c.size-n.ensures at c.sound_channel_at-ok.ensures) c.loop-i-test.true (omega arith))

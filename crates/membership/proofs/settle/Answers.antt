@@ -1,9 +1,17 @@
 -- `membership::settle`: the settling run, between encoding and decoding.
 use Rattle.codec.proofs.Lengths.{value_lengths}
-use Rattle.membership.proofs.Between.{settled_between}
+use Rattle.membership.proofs.Between.{settled_between, unsettled_between}
+use Rattle.settle.specs.Settle.{settled_of}
 use Rattle.membership.proofs.settle.Goals as goal
 
-pub returns : goal.returns
-returns c =
-    settled_between _ c.image_buffer-image.result _ _ _ (value_lengths _ _ c.well_formed.0) c.image_buffer-image.ensures c.encode.auto.image c.settle-run.auto.image
-    c.encode.ensures c.decode-system.ensures _ _ c.settle-run.ensures
+pub returns-in-Ok : goal.returns-in-Ok
+unfolding settled_of
+returns-in-Ok c =
+    settled_between _ c.blank_image-image.result _ _ (value_lengths _ _ c.well_formed.0) c.blank_image-image.ensures.long c.encode.auto.image c.settle.auto.image c.encode.ensures
+    _ c.decode.ensures _ _ c.in-Ok.ensures
+
+pub returns-in-Err : goal.returns-in-Err
+unfolding settled_of
+returns-in-Err c =
+    unsettled_between _ c.blank_image-image.result _ _ (value_lengths _ _ c.well_formed.0) c.blank_image-image.ensures.long c.encode.auto.image c.settle.auto.image c.encode.ensures
+    _ _ c.in-Err.ensures
