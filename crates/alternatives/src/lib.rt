@@ -3,29 +3,45 @@
 // Internal to the engine: nothing is tested that the engine has tested before.
 #![tactic(auto)]
 
-ghost use Rattle.std.specs.Prelude.{◌≡◌};
+ghost use Rattle.std.specs.Prelude.{◌≡◌, None, Some};
 ghost use Rattle.view.specs.View.{with, minus, everyone};
 ghost use Rattle.channel.specs.declared.Message.{Message};
-ghost use Rattle.system.specs.declared.Pending.{Pending};
+ghost use Rattle.system.specs.Process.{proposal_of};
+ghost use Rattle.system.specs.Refusal.{answer_number};
 ghost use Rattle.system.specs.System.{variables_at};
 ghost use Rattle.plan.specs.Fields.{with_view, with_next, with_acks, proposing};
 ghost use Rattle.plan.specs.Plan.{assigning, recording, entering, sending, quietly, doubting};
+ghost use Rattle.plan.specs.Cut.{reach_of};
 ghost use Rattle.step.specs.Scope.{taking, facing};
-ghost use Rattle.step.specs.Step.{doubted};
+ghost use Rattle.step.specs.Step.{taken_off, doubted};
 ghost use Rattle.image.specs.Image.{system_in};
-ghost use Rattle.alternatives.specs.Gives.{Gives, carried};
+ghost use Rattle.alternatives.specs.Gives.{Gives, carried, with_room};
 
 use channel::Message;
-use effects::{crash_if, doubt, room, send_if_named, send_out, takes_if_named};
+use effects::{doubt, room, send_out};
 use image::{pop, put_entry, put_pending, put_variables, size, variables_at};
 use plan::{
-    Cut, Scope, proposing, quiet_refusal, reach_of, refusal_of, with_acks, with_next, with_view,
+    Cut, Reach, Scope, proposing, reach_of, require_room, require_whole, with_acks, with_next,
+    with_view,
 };
-use system::{Pending, Variables};
+use system::refusal::Refusal;
+use system::{Proposal, Variables};
 use view::{GroupIndex, ProcessId, everyone, minus, with};
 
+// The reach of a message to these processes, if they have room for it. Inlined, as `send_out` is: a step that
+// sends takes a tenth less.
+#[tactic(auto, unfolding(crate::specs::Gives::with_room, view::specs::Logic::pick))]
+#[inline(always)]
+fn reach_with_room(image: &[u8], c: Scope, cut: Cut, to: u8) -> Result<Reach, Refusal>
+    ensures { result ≡ with_room (taken_off (system_in image.now) c) c.actor.0 (reach_of cut to) }
+{
+    let reach = reach_of(cut, to)?;
+    require_room(room(image, c, reach.addressees))?;
+    Ok(reach)
+}
+
 // ---- a report
-// Process p is told a view: it comes to lack whoever is not in it, or goes on to.
+// Process p is told a view: it comes to suspect whoever is not in it, or goes on to.
 fn doubt_others(image: &mut [u8], p: ProcessId, view: u8)
     ensures { system_in image.new ≡ doubted (system_in image.old) p.0 (minus (everyone (system_in image.old).n) view) }
 {
@@ -33,42 +49,37 @@ fn doubt_others(image: &mut [u8], p: ProcessId, view: u8)
 }
 
 // Process p only takes the view over.
-pub fn adopt_view(image: &mut [u8], p: ProcessId, view: u8, cut: Cut) -> u8
-    ensures { Gives (carried (system_in image.old) (facing p p) cut (doubting (minus (everyone (system_in image.old).n) view) (quietly (assigning (with_view (variables_at (system_in image.old) p.0) view))))) image.old result image.new }
+#[tactic(auto, using(crate::proofs::Carrying::not_quiet, crate::proofs::Alternatives::adopt_done))]
+pub fn adopt_view(image: &mut [u8], p: ProcessId, view: u8, cut: Cut) -> Result<(), Refusal>
+    ensures { Gives (carried (system_in image.old) (facing p p) cut (doubting (minus (everyone (system_in image.old).n) view) (quietly (assigning (with_view (variables_at (system_in image.old) p.0) view))))) image.old (answer_number result) image.new }
 {
-    let refusal = quiet_refusal(cut);
-    if refusal == 0 {
-        doubt_others(image, p, view);
-        put_variables(image, p, with_view(variables_at(image, p), view));
-        0
-    } else {
-        refusal
-    }
+    require_whole(cut)?;
+    doubt_others(image, p, view);
+    put_variables(image, p, with_view(variables_at(image, p), view));
+    Ok(())
 }
 
 // Process p proposes the view at index i.
-pub fn propose_view(image: &mut [u8], p: ProcessId, view: u8, i: GroupIndex, cut: Cut) -> u8
-    ensures { Gives (carried (system_in image.old) (facing p p) cut (doubting (minus (everyone (system_in image.old).n) view) (sending (assigning (proposing (variables_at (system_in image.old) p.0) view i.0)) view (Message.Propose view i)))) image.old result image.new }
+#[tactic(auto, using(crate::proofs::Carrying::not_sent, crate::proofs::Alternatives::propose_done))]
+pub fn propose_view(
+    image: &mut [u8],
+    p: ProcessId,
+    view: u8,
+    i: GroupIndex,
+    cut: Cut,
+) -> Result<(), Refusal>
+    ensures { Gives (carried (system_in image.old) (facing p p) cut (doubting (minus (everyone (system_in image.old).n) view) (sending (assigning (proposing (variables_at (system_in image.old) p.0) view i.0)) view (Message.Propose view i)))) image.old (answer_number result) image.new }
 {
-    let c = Scope {
-        actor: p,
-        partner: p,
-        takes: false,
-    };
-    let t = reach_of(cut, view);
-    let refusal = refusal_of(t, room(image, c, t.addressees));
-    if refusal == 0 {
-        doubt_others(image, p, view);
-        put_variables(image, p, proposing(variables_at(image, p), view, i));
-        send_out(image, p, t, Message::Propose(view, i));
-        0
-    } else {
-        refusal
-    }
+    let reach = reach_with_room(image, Scope::facing(p, p), cut, view)?;
+    doubt_others(image, p, view);
+    put_variables(image, p, proposing(variables_at(image, p), view, i));
+    send_out(image, p, reach, Message::Propose(view, i));
+    Ok(())
 }
 
 // ---- a take, at process p, of a message from process q
 // The proposal is recorded.
+#[tactic(auto, using(crate::proofs::Carrying::not_quiet, crate::proofs::Alternatives::record_done))]
 pub fn record_proposal(
     image: &mut [u8],
     q: ProcessId,
@@ -76,47 +87,44 @@ pub fn record_proposal(
     cut: Cut,
     view: u8,
     i: GroupIndex,
-) -> u8
-    ensures { Gives (carried (system_in image.old) (taking q p) cut (quietly (recording (variables_at (system_in image.old) p.0) q (Pending.Proposal view i)))) image.old result image.new }
+) -> Result<(), Refusal>
+    ensures { Gives (carried (system_in image.old) (taking q p) cut (quietly (recording (variables_at (system_in image.old) p.0) q (Some (proposal_of view i))))) image.old (answer_number result) image.new }
 {
-    let refusal = quiet_refusal(cut);
-    if refusal == 0 {
-        pop(image, q, p);
-        put_pending(image, p, q, Pending::Proposal(view, i));
-        0
-    } else {
-        refusal
-    }
+    require_whole(cut)?;
+    pop(image, q, p);
+    put_pending(image, p, q, Some(Proposal { view, index: i }));
+    Ok(())
 }
 
 // Nothing else changes.
-pub fn skip_message(image: &mut [u8], q: ProcessId, p: ProcessId, cut: Cut) -> u8
-    ensures { Gives (carried (system_in image.old) (taking q p) cut (quietly (assigning (variables_at (system_in image.old) p.0)))) image.old result image.new }
+#[tactic(auto, using(crate::proofs::Carrying::not_quiet, crate::proofs::Alternatives::skip_done))]
+pub fn skip_message(image: &mut [u8], q: ProcessId, p: ProcessId, cut: Cut) -> Result<(), Refusal>
+    ensures { Gives (carried (system_in image.old) (taking q p) cut (quietly (assigning (variables_at (system_in image.old) p.0)))) image.old (answer_number result) image.new }
 {
-    let refusal = quiet_refusal(cut);
-    if refusal == 0 {
-        pop(image, q, p);
-        0
-    } else {
-        refusal
-    }
+    require_whole(cut)?;
+    pop(image, q, p);
+    Ok(())
 }
 
 // These have acknowledged.
-pub fn mark_acks(image: &mut [u8], q: ProcessId, p: ProcessId, cut: Cut, acks: u8) -> u8
-    ensures { Gives (carried (system_in image.old) (taking q p) cut (quietly (assigning (with_acks (variables_at (system_in image.old) p.0) acks)))) image.old result image.new }
+#[tactic(auto, using(crate::proofs::Carrying::not_quiet, crate::proofs::Alternatives::mark_done))]
+pub fn mark_acks(
+    image: &mut [u8],
+    q: ProcessId,
+    p: ProcessId,
+    cut: Cut,
+    acks: u8,
+) -> Result<(), Refusal>
+    ensures { Gives (carried (system_in image.old) (taking q p) cut (quietly (assigning (with_acks (variables_at (system_in image.old) p.0) acks)))) image.old (answer_number result) image.new }
 {
-    let refusal = quiet_refusal(cut);
-    if refusal == 0 {
-        pop(image, q, p);
-        put_variables(image, p, with_acks(variables_at(image, p), acks));
-        0
-    } else {
-        refusal
-    }
+    require_whole(cut)?;
+    pop(image, q, p);
+    put_variables(image, p, with_acks(variables_at(image, p), acks));
+    Ok(())
 }
 
 // The view is entered at index i.
+#[tactic(auto, using(crate::proofs::Carrying::not_quiet, crate::proofs::Alternatives::enter_done))]
 pub fn enter_view(
     image: &mut [u8],
     q: ProcessId,
@@ -124,20 +132,17 @@ pub fn enter_view(
     cut: Cut,
     view: u8,
     i: GroupIndex,
-) -> u8
-    ensures { Gives (carried (system_in image.old) (taking q p) cut (quietly (entering (variables_at (system_in image.old) p.0) i.0 view))) image.old result image.new }
+) -> Result<(), Refusal>
+    ensures { Gives (carried (system_in image.old) (taking q p) cut (quietly (entering (variables_at (system_in image.old) p.0) i.0 view))) image.old (answer_number result) image.new }
 {
-    let refusal = quiet_refusal(cut);
-    if refusal == 0 {
-        pop(image, q, p);
-        put_entry(image, p, i, view);
-        0
-    } else {
-        refusal
-    }
+    require_whole(cut)?;
+    pop(image, q, p);
+    put_entry(image, p, i, view);
+    Ok(())
 }
 
 // The variables become y, and a message goes to these.
+#[tactic(auto, using(crate::proofs::Carrying::not_sent, crate::proofs::Alternatives::taken_sent))]
 pub fn send_taken(
     image: &mut [u8],
     q: ProcessId,
@@ -146,28 +151,19 @@ pub fn send_taken(
     y: Variables,
     to: u8,
     m: Message,
-) -> u8
-    ensures { Gives (carried (system_in image.old) (taking q p) cut (sending (assigning y) to m)) image.old result image.new }
+) -> Result<(), Refusal>
+    ensures { Gives (carried (system_in image.old) (taking q p) cut (sending (assigning y) to m)) image.old (answer_number result) image.new }
 {
-    let c = Scope {
-        actor: p,
-        partner: q,
-        takes: true,
-    };
-    let t = reach_of(cut, to);
-    let refusal = refusal_of(t, room(image, c, t.addressees));
-    if refusal == 0 {
-        pop(image, q, p);
-        put_variables(image, p, y);
-        send_out(image, p, t, m);
-        0
-    } else {
-        refusal
-    }
+    let reach = reach_with_room(image, Scope::taking(q, p), cut, to)?;
+    pop(image, q, p);
+    put_variables(image, p, y);
+    send_out(image, p, reach, m);
+    Ok(())
 }
 
 // ---- an answer of process p to process q
 // Next becomes this, the record is cleared, and the message goes to the proposer.
+#[tactic(auto, using(crate::proofs::Carrying::not_sent, crate::proofs::Alternatives::reply_done))]
 pub fn reply(
     image: &mut [u8],
     p: ProcessId,
@@ -175,23 +171,12 @@ pub fn reply(
     cut: Cut,
     next: GroupIndex,
     m: Message,
-) -> u8
-    ensures { Gives (carried (system_in image.old) (facing p q) cut (sending (recording (with_next (variables_at (system_in image.old) p.0) next.0) q Pending.Nothing) (with 0 q.0) m)) image.old result image.new }
+) -> Result<(), Refusal>
+    ensures { Gives (carried (system_in image.old) (facing p q) cut (sending (recording (with_next (variables_at (system_in image.old) p.0) next.0) q None) (with 0 q.0) m)) image.old (answer_number result) image.new }
 {
-    let c = Scope {
-        actor: p,
-        partner: q,
-        takes: false,
-    };
-    let t = reach_of(cut, with(0, q));
-    let refusal = refusal_of(t, takes_if_named(image, c, t.addressees, q));
-    if refusal == 0 {
-        put_variables(image, p, with_next(variables_at(image, p), next));
-        put_pending(image, p, q, Pending::Nothing);
-        send_if_named(image, p, t.addressees, m, q);
-        crash_if(image, t.stops, p);
-        0
-    } else {
-        refusal
-    }
+    let reach = reach_with_room(image, Scope::facing(p, q), cut, with(0, q))?;
+    put_variables(image, p, with_next(variables_at(image, p), next));
+    put_pending(image, p, q, None);
+    send_out(image, p, reach, m);
+    Ok(())
 }

@@ -1,22 +1,35 @@
 -- A settling run's answer, as a number and a pair of numbers.
 use Prim.Native.Nat.{ℕ}
-use mathlib.Core.Path.{◌≡◌, ◌∙◌, ap}
+use mathlib.Core.Path.{◌≡◌, refl, sym, ◌∙◌, ap}
 use mathlib.Core.List.{List}
 use lib.ListN.{set}
+use Rattle.std.specs.Prelude.{Result, Ok, Err}
+use Rattle.system.specs.declared.refusal.Refusal.{Refusal}
+use Rattle.system.specs.Refusal.{number}
 use Rattle.image.specs.Image.{system_in}
+use Rattle.settle.specs.declared.Ending.TheVariants.{Held}
 use Rattle.settle.specs.declared.Settling.{Settling}
-use Rattle.settle.specs.declared.Settled.{Settled}
-use Rattle.settle.specs.Settle.{settled, Settles}
+use Rattle.settle.specs.Settle.{Settled, settled, settled_as, Settles}
 use Rattle.capi.specs.Calls.{ending_number, Tells}
 
-pub run_told : (budget : ℕ) (b : List ℕ) (r : Settling) (c told : List ℕ) (k : ℕ) → Settles budget b r c → k ≡ ending_number r.ending
-    → Tells (settled budget (system_in b)) b r.refusal c told (set (set told 0 r.steps) 1 k)
-run_told budget b r c told k run is =
-    let same = run.outcome in
-    record {
-      number = ap (λ (x : Settled). x.refusal) same;
-      system = ap (λ (x : Settled). x.system) same;
-      told =
-          ap (set (set told 0 r.steps) 1) is ∙ ap (λ (x : Settled). set (set told 0 x.steps) 1 (ending_number x.ending)) same;
-      kept = λ none. run.kept (ap (λ (x : Settled). x.steps) same ∙ none);
-    }
+module _ (budget : ℕ) (b c told : List ℕ) where
+  told_so : (s : Settled) → s ≡ settled budget (system_in b) → s.system ≡ system_in c → (s.steps ≡ 0 → c ≡ b)
+      → Tells (settled budget (system_in b)) b s.refusal c told (set (set told 0 s.steps) 1 (ending_number s.ending))
+  told_so s same left kept =
+      record {
+        number = ap (λ (x : Settled). x.refusal) same;
+        system = sym left ∙ ap (λ (x : Settled). x.system) same;
+        told = ap (λ (x : Settled). set (set told 0 x.steps) 1 (ending_number x.ending)) same;
+        kept = λ none. kept (ap (λ (x : Settled). x.steps) same ∙ none);
+      }
+
+  module _ (r : Result Settling Refusal) (run : Settles budget b r c) where
+    pub run_told : (x : Settling) (k : ℕ) → r ≡ Ok x → k ≡ ending_number x.ending
+        → Tells (settled budget (system_in b)) b 0 c told (set (set told 0 x.steps) 1 k)
+    unfolding settled_as
+    run_told x k done is = rw is (told_so _ (rw done at run.outcome) refl (rw done at run.kept))
+
+    pub refusal_told : (e : Refusal) (k : ℕ) → r ≡ Err e → k ≡ ending_number Held
+        → Tells (settled budget (system_in b)) b (number e) c told (set (set told 0 0) 1 k)
+    unfolding settled_as
+    refusal_told e k refused is = rw is (told_so _ (rw refused at run.outcome) refl (rw refused at run.kept))

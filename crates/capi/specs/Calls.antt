@@ -1,12 +1,12 @@
 -- What the functions for other languages answer and leave, where the engine has no word for it yet.
 use Rattle.std.specs.Prelude.{ℕ, min, ◌≡◌, List, ◌++◌, eqb, length, take, drop, set}
 use Rattle.view.specs.Logic.{pick}
-use Rattle.system.specs.System.{refused}
 use Rattle.system.specs.Fresh.{fresh_of}
 use Rattle.image.specs.Image.{image_width, system_in}
 use Rattle.settle.specs.declared.Ending.{Ending}
 use Rattle.settle.specs.declared.Ending.TheVariants.{Rest, Held, Budget}
-use Rattle.settle.specs.declared.Settled.{Settled}
+use Rattle.settle.specs.Settle.{Settled}
+use Rattle.system.specs.Outcome.{refused}
 
 -- Bytes b become bytes c and the number k is answered: the fresh system of n processes; for a wrong n, 2 and a system of none. Where
 -- b has not the length of an image, the number is 1 and every byte is as it was.

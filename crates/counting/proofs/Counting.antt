@@ -5,63 +5,54 @@ use mathlib.Core.Bool.{Bool, true, false, ◌&&◌}
 use mathlib.Core.List.{List}
 use native.Mathlib.Decide.{dec_le, dec_lt}
 use native.Mathlib.Nat.{lt_of_not-le}
-use native.Mathlib.Numerals.{add-one}
 use native.Mathlib.Omega.{arith}
-use borrow.Author.Tests.{lt-ltb, eq-eqb, ne_eqb}
+use borrow.Author.Tests.{lt-ltb, eq-eqb, ne_eqb, eqb-true, eqb-false}
 use lib.Dec.{eqb}
-use Rattle.view.specs.Logic.{pick, sum_up_to, at}
+use lib.ListN.{length, get_or, drop}
+use lib.Seq.{get_or-drop}
+use Rattle.std.proofs.Common.{Fits, w8, Result, Ok, Err}
+use Rattle.std.specs.Result.{result_and}
+use Rattle.view.specs.Logic.{is_one_of, pick, sum_up_to, at}
 use Rattle.view.proofs.Laws.{by_pick, by_number, at_put_other}
+use Rattle.view.proofs.Sums.{sum_at_most}
 use Rattle.tallies.specs.declared.Tally.{Tally}
 use Rattle.tallies.specs.Tally.{no_tally}
 use Rattle.channel.specs.declared.Channel.{Channel}
 use Rattle.channel.specs.Channel.{empty_channel, popped}
 use Rattle.system.specs.declared.System.{System}
-use Rattle.system.specs.declared.Outcome.{Outcome}
-use Rattle.system.specs.System.{process_at, channel_number, channel_at, with_channel}
+use Rattle.system.specs.Outcome.{Outcome, refused}
+use Rattle.system.specs.declared.refusal.Refusal.{Refusal}
+use Rattle.system.specs.Refusal.{number, answer_number}
+use Rattle.system.specs.System.{variables_at, process_at, channel_number, channel_at, with_channel}
 use Rattle.sound.specs.Sound.{sound_system}
 use Rattle.plan.specs.declared.Scope.{Scope}
 use Rattle.plan.specs.declared.Step.{Step}
 use Rattle.step.specs.Scope.{scope_of}
-use Rattle.plan.specs.Cut.{cut_by}
-use Rattle.step.specs.Step.{plan_of, taken_off, attempted, does, happened}
-use Rattle.step.specs.Counts.{one, vanishes_at, vanished, plan_tally, tally_if, step_tally, event_tally}
+use Rattle.system.specs.declared.Variables.{Variables}
+use Rattle.plan.specs.declared.Plan.{Plan}
+use Rattle.plan.specs.declared.Cut.{Cut}
+use Rattle.plan.specs.declared.Cut.TheVariants.{Whole, After}
+use Rattle.plan.specs.Plan.{Planned}
+use Rattle.plan.specs.Cut.{cut_by, cut_short}
+use Rattle.step.specs.Step.{plan_of, taken_off, carried_out, permitted, attempted, does, happened}
+use Rattle.step.specs.Counts.{waiting_from, waiting_towards, one, vanishes_at, vanished, tally_if, step_tally, event_tally}
 use Rattle.step.proofs.Inversion.{sound_stepped}
-use Rattle.image.specs.Image.{system_in}
+use Rattle.image.specs.Image.{image_width, channel_width, channels_place, length_place, rows, channel_in, decoded, no_system, system_in}
+use Rattle.alternatives.proofs.Carrying.{some_number}
 use Rattle.engine.specs.Engine.{Attempts}
+use Rattle.counting.specs.Plans.{planned, planned_of}
+use Rattle.counting.specs.Tallied.{counted, Counts}
 use Rattle.effects.proofs.Laws.{popped_at, same_ends}
-use Rattle.effects.proofs.Halves.{halved, not_named}
 
--- ---- a sum, one turn more
-pub sum_none : (f : ℕ → ℕ) → 0 ≡ sum_up_to 0 f
-unfolding sum_up_to
-sum_none f = refl
-
-pub sum_more : (i : ℕ) (f : ℕ → ℕ) (a b : ℕ) → a ≡ sum_up_to i f → b ≡ f (i + 1) → a + b ≡ sum_up_to (i + 1) f
-unfolding sum_up_to
-sum_more i f a b so_far more = rw (so_far, more, add-one)
-
-pub sum_to : (i n : ℕ) (f : ℕ → ℕ) (a : ℕ) → a ≡ sum_up_to i f → i ≡ n → a ≡ sum_up_to n f
-sum_to i n f a so_far end = so_far ∙ ap (λ (k : ℕ). sum_up_to k f) end
-
--- those past i add nothing
-sum_idle : (f : ℕ → ℕ) (i n : ℕ) → i ≤ n → ((k : ℕ) → i < k → f k ≡ 0) → sum_up_to i f ≡ sum_up_to n f
-unfolding sum_up_to
-sum_idle f i zero l h = let none : i ≡ zero = omega arith in ap (λ (j : ℕ). sum_up_to j f) none
-sum_idle f i (suc n) l h =
-    elim (dec_le i n) [
-      | yes p ↦ let before = sum_idle f i n p h in let last = h (suc n) (omega arith) in omega (arith, before, last)
-      | no q ↦ let end : i ≡ suc n = omega (arith, lt_of_not-le q) in ap (λ (j : ℕ). sum_up_to j f) end
-    ]
-
+-- ---- who vanishes
 pub one_low : (t : Bool) → one t ≤ 1
 unfolding one pick
 one_low true = omega arith
 one_low false = omega arith
 
--- once nothing is left of the addressees, none past the last one vanishes
-pub all_vanished : (s : System) (v i : ℕ) → v < 256 → i ≤ 8 → halved i v ≡ 0 → sum_up_to i (vanishes_at s v) ≡ vanished s v
-unfolding vanished vanishes_at one pick
-all_vanished s v i h l none = sum_idle (vanishes_at s v) i 8 l (λ k past. rw (not_named v i k h l none past))
+pub few_vanish : (s : System) (to : ℕ) → sum_up_to 8 (vanishes_at s to) ≤ 8
+unfolding vanishes_at
+few_vanish s to = omega (arith, sum_at_most 8 (vanishes_at s to) 1 (λ k l u. one_low _))
 
 -- ---- once the taken message is off
 pub taken_size : (s : System) (c : Scope) → s.n ≡ (taken_off s c).n
@@ -123,15 +114,91 @@ taken_len s c q = go c.takes
     go true = len_off_lem s c.partner.0 c.actor.0 q
     go false = no_less _
 
--- ---- the tally of a step, asked before it is done
-pub step_counts : (o : Step) (b d : List ℕ) (k : ℕ) (a r : Tally) → Attempts o b k d
-    → a ≡ plan_tally (taken_off (system_in b) (scope_of o.action)) (scope_of o.action) (cut_by o.cut (plan_of (system_in b) o.action))
-    → r ≡ tally_if k a
-    → r ≡ step_tally (system_in b) o
-unfolding step_tally
-step_counts o b d k a r gave plan counts =
-    let number : k ≡ (attempted (system_in b) o).refusal = ap (λ (x : Outcome). x.refusal) gave.gives.outcome in
-    rw (← number, ← plan) counts
+-- ---- how many wait at most, where each byte is below 256
+abbrev Bytes : List ℕ → Type 0
+Bytes b = (i : ℕ) → Fits w8 (get_or b i 0)
+
+bytes_left : (w : ℕ) (b : List ℕ) → Bytes b → Bytes (drop w b)
+bytes_left w b small i = rw (get_or-drop w b i 0) (small (w + i))
+
+each_short : (n w : ℕ) (b : List ℕ) → Bytes b → (k : ℕ) → (at (rows n w channel_in b) k empty_channel).len < 256
+unfolding rows channel_in at empty_channel
+each_short n w b small zero = omega arith
+each_short zero w b small (suc k) = omega arith
+each_short (suc n) w b small (suc zero) = (small length_place).fits
+each_short (suc n) w b small (suc (suc k)) = each_short n w (drop w b) (bytes_left w b small) (suc k)
+
+short : (b : List ℕ) → Bytes b → (q p : ℕ) → (channel_at (system_in b) q p).len < 256
+unfolding channel_at system_in decoded no_system at rows
+short b small q p =
+    by_pick (λ (s : System). (at s.channels (channel_number q p) empty_channel).len < 256) (eqb (length b) image_width) _ _
+    (λ e. each_short 64 channel_width (drop channels_place b) (bytes_left channels_place b small) (channel_number q p))
+    (λ e. each_short zero channel_width b small (channel_number q p))
+
+size_low : (b : List ℕ) → Bytes b → (system_in b).n < 256
+unfolding system_in decoded no_system
+size_low b small = by_pick (λ (s : System). s.n < 256) (eqb (length b) image_width) _ _ (λ e. (small 0).fits) (λ e. omega arith)
+
+pub few_towards : (b : List ℕ) → Bytes b → (c : Scope) (n : ℕ) → n < 256 → sum_up_to n (waiting_from (taken_off (system_in b) c) c.actor.0) ≤ 65025
+few_towards b small c n low =
+    omega (arith, sum_at_most n (waiting_from (taken_off (system_in b) c) c.actor.0) 255 (λ q l u. omega (arith, taken_len (system_in b) c q, short b small q c.actor.0)))
+
+few_from : (b : List ℕ) → Bytes b → (n p : ℕ) → n < 256 → sum_up_to n (waiting_from (system_in b) p) ≤ 65025
+few_from b small n p low = omega (arith, sum_at_most n (waiting_from (system_in b) p) 255 (λ q l u. omega (arith, short b small q p)))
+
+few_at : (b : List ℕ) → Bytes b → (p : ℕ) → waiting_towards (system_in b) p ≤ 65025
+unfolding waiting_towards
+few_at b small p = few_from b small (system_in b).n p (size_low b small)
+
+pub few_in : (b : List ℕ) → Bytes b → (n : ℕ) → n < 256 → sum_up_to n (waiting_towards (system_in b)) ≤ 16581375
+few_in b small n low = omega (arith, sum_at_most n (waiting_towards (system_in b)) 65025 (λ p l u. few_at b small p))
+
+-- ---- a plan, cut or not
+-- the plan of a cut, from that of the action
+pub planned_cut : (x : Variables) (cut : Cut) (a r : Result Plan Refusal) (b c : Plan) (w : Planned) → a ≡ Ok b → r ≡ Ok c
+    → planned_of x a ≡ w → planned_of b.change.variables r ≡ cut_by cut (planned b) → planned c ≡ cut_by cut w
+planned_cut x cut a r b c w e f whole after =
+    subst (λ (y : Planned). planned c ≡ cut_by cut y) (subst (λ (y : Result Plan Refusal). planned_of x y ≡ w) e whole) (subst (λ (y : Result Plan Refusal). planned_of b.change.variables y ≡ cut_by cut (planned b)) f after)
+
+pub cut_refused : (cut : Cut) (a : Planned) → (a.refusal ≡ 0 → ⊥) → cut_by cut a ≡ a
+unfolding cut_by cut_short pick
+cut_refused Whole a some = refl
+cut_refused (After k) a some = rw (ne_eqb a.refusal 0 some)
+
+-- ---- a step that is done, and one that is not
+-- the plan of a step that is done is not refused
+planned_if_done : (s : System) (o : Step) → (attempted s o).refusal ≡ 0 → (cut_by o.cut (plan_of s o.action)).refusal ≡ 0
+unfolding attempted permitted carried_out pick
+planned_if_done s o done = acts (is_one_of s.n c.actor.0 && is_one_of s.n c.partner.0) (variables_at s c.actor.0).crashed done
+  where
+    c : Scope
+    c = scope_of o.action
+
+    a : Planned
+    a = cut_by o.cut (plan_of s o.action)
+
+    carried : (plain : Bool) → eqb a.refusal 0 ≡ plain → (x : Outcome) → (pick plain x (refused a.refusal s)).refusal ≡ 0 → a.refusal ≡ 0
+    carried true is x e = eqb-true a.refusal 0 is
+    carried false is x e = e
+
+    acts : (named crashed : Bool) → (pick named (pick crashed (refused 3 s) (carried_out s (taken_off s c) c.actor.0 a)) (refused 2 s)).refusal ≡ 0 → a.refusal ≡ 0
+    acts true true e = absurd (omega (arith, e))
+    acts true false e = carried (eqb a.refusal 0) refl _ e
+    acts false crashed e = absurd (omega (arith, e))
+
+module _ (o : Step) (b d : List ℕ) where
+  answered : (k : ℕ) → Attempts o b k d → k ≡ (attempted (system_in b) o).refusal
+  answered k gave = ap (λ (x : Outcome). x.refusal) gave.gives.outcome
+
+  -- the step's answer, with what was counted before it
+  pub tallied : (done : Result (Unit {0}) Refusal) (r : Result Tally Refusal) → Attempts o b (answer_number done) d → Counts (system_in b) o r
+      → Attempts o b (answer_number (result_and done r)) d × (counted (result_and done r) ≡ step_tally (system_in b) o)
+  unfolding step_tally tally_if pick
+  tallied (Ok x) (Ok t) gave counts = (gave, rw (← answered 0 gave) counts)
+  tallied (Ok x) (Err r) gave counts =
+      absurd (eqb-false (number r) 0 (some_number r) (sym counts ∙ planned_if_done (system_in b) o (sym (answered 0 gave))))
+  tallied (Err r) counts gave never =
+      (gave, rw (← answered (number r) gave, some_number r) refl)
 
 -- where the system is sound, what a step counts is what the event counts
 pub event_counts : (s : System) (o : Step) → sound_system s ≡ true → step_tally s o ≡ event_tally s (does o)

@@ -1,44 +1,31 @@
 // The plan of a step, by value: the definitions' own form of what an alternative does, for whoever asks
 // what a step would do.
-ghost use Rattle.std.specs.Prelude.{◌≡◌};
-ghost use Rattle.plan.specs.Plan.{assigning, recording, entering, sending, quietly, refusing, doubting, report_plan, receive_plan, respond_plan, crash_plan};
+ghost use Rattle.std.specs.Prelude.{ℕ, ◌≡◌, Ok};
+ghost use Rattle.view.specs.View.{minus, everyone};
+ghost use Rattle.plan.specs.Plan.{assigning, recording, entering, sending, quietly, doubting, report_plan, receive_plan, respond_plan, crash_plan};
+ghost use Rattle.plan.specs.Choice.{reported_plan, report_fits};
+ghost use Rattle.plan.specs.Cut.{cut_by};
 ghost use Rattle.step.specs.Scope.{scope_of};
-ghost use Rattle.plan.specs.Cut.{cut_short, cut_by};
+ghost use Rattle.counting.specs.Plans.{planned, planned_of};
 
-use channel::{Front, Message};
+use channel::Message;
 use plan::{
-    Action, Change, Cut, Plan, ReceiveChoice, ReportChoice, RespondChoice, Scope, after, proposing,
-    reach_of, receive_choice, report_choice, reproposing, respond_choice, with_acks, with_next,
-    with_view,
+    Action, Change, Cut, Plan, ReceiveChoice, ReportChoice, Scope, after, proposing, reach_of,
+    receive_choice, report_choice, reproposing, respond_choice, with_acks, with_next, with_view,
 };
-use system::{Pending, Variables};
+use system::refusal::Refusal;
+use system::{Proposal, Variables};
 use view::{GroupIndex, ProcessId, everyone, minus, with};
 
 // Whom an action names.
+#[tactic(auto, unfolding(step::specs::Scope::scope_of))]
 pub fn scope_of(o: Action) -> Scope
     ensures { result ≡ scope_of o }
 {
     match o {
-        Action::Report(p, view) => Scope {
-            actor: p,
-            partner: p,
-            takes: false,
-        },
-        Action::Receive(q, p) => Scope {
-            actor: p,
-            partner: q,
-            takes: true,
-        },
-        Action::Respond(p, q) => Scope {
-            actor: p,
-            partner: q,
-            takes: false,
-        },
-        Action::Crash(p) => Scope {
-            actor: p,
-            partner: p,
-            takes: false,
-        },
+        Action::Report(p, _) | Action::Crash(p) => Scope::facing(p, p),
+        Action::Receive(q, p) => Scope::taking(q, p),
+        Action::Respond(p, q) => Scope::facing(p, q),
     }
 }
 
@@ -46,19 +33,23 @@ pub fn scope_of(o: Action) -> Scope
 fn assigning(x: Variables) -> Change
     ensures { result ≡ assigning x }
 {
-    recording(x, ProcessId(0), Pending::Nothing)
+    Change {
+        variables: x,
+        proposer: ProcessId(0),
+        pending: None,
+        index: GroupIndex(0),
+        entry: 0,
+    }
 }
 
 // The variables change, and what is recorded from process q.
-fn recording(x: Variables, q: ProcessId, pending: Pending) -> Change
+fn recording(x: Variables, q: ProcessId, pending: Option<Proposal>) -> Change
     ensures { result ≡ recording x q pending }
 {
     Change {
-        variables: x,
         proposer: q,
         pending,
-        index: GroupIndex(0),
-        entry: 0,
+        ..assigning(x)
     }
 }
 
@@ -67,20 +58,17 @@ fn entering(x: Variables, i: GroupIndex, view: u8) -> Change
     ensures { result ≡ entering x i.0 view }
 {
     Change {
-        variables: x,
-        proposer: ProcessId(0),
-        pending: Pending::Nothing,
         index: i,
         entry: view,
+        ..assigning(x)
     }
 }
 
 // The process changes so; m goes to each process of the view.
 fn sending(change: Change, to: u8, m: Message) -> Plan
-    ensures { result ≡ sending change to m }
+    ensures { planned result ≡ sending change to m }
 {
     Plan {
-        refusal: 0,
         change,
         stops: false,
         addressees: to,
@@ -91,60 +79,56 @@ fn sending(change: Change, to: u8, m: Message) -> Plan
 
 // The process changes so, and nothing is sent.
 fn quietly(change: Change) -> Plan
-    ensures { result ≡ quietly change }
+    ensures { planned result ≡ quietly change }
 {
     sending(change, 0, Message::Propose(0, GroupIndex(0)))
 }
 
-fn refusing(k: u8, x: Variables) -> Plan
-    ensures { result ≡ refusing k x }
+// The plan of a report that is permitted, but for whom the process suspects.
+#[tactic(auto, unfolding(plan::specs::Choice::reported_plan, view::specs::Logic::pick))]
+fn reported(view: u8, x: Variables, choice: ReportChoice) -> Plan
+    requires { report_fits x choice }
+    ensures { (n : ℕ) → doubting (minus (everyone n) view) (planned result) ≡ reported_plan n view x (Ok choice) }
 {
-    Plan {
-        refusal: k,
-        change: assigning(x),
-        stops: false,
-        addressees: 0,
-        message: Message::Propose(0, GroupIndex(0)),
-        suspects: 0,
-    }
-}
-
-// The same plan, by which the process suspects those of a set.
-fn doubting(suspects: u8, a: Plan) -> Plan
-    ensures { result ≡ doubting suspects a }
-{
-    let mut b = a;
-    b.suspects = suspects;
-    b
-}
-
-// The plan of a report.
-pub fn report_plan(n: u8, p: ProcessId, view: u8, x: Variables, trust: u8) -> Plan
-    ensures { result ≡ report_plan n p.0 view x trust }
-{
-    let suspects = minus(everyone(n), view);
-    match report_choice(n, p, view, x, trust) {
-        ReportChoice::Refuse(k) => refusing(k, x),
-        ReportChoice::Adopt => doubting(suspects, quietly(assigning(with_view(x, view)))),
+    match choice {
+        ReportChoice::Adopt => quietly(assigning(with_view(x, view))),
         ReportChoice::ProposeAfter => {
             let i = after(x.propout);
-            let full = sending(
+            sending(
                 assigning(proposing(x, view, i)),
                 view,
                 Message::Propose(view, i),
-            );
-            doubting(suspects, full)
+            )
         }
     }
 }
 
-// The plan of a process that takes a message, if one waits.
-pub fn receive_plan(q: ProcessId, p: ProcessId, x: Variables, front: Front) -> Plan
-    ensures { result ≡ receive_plan q p.0 x front }
+// The plan of a report: the process suspects those whom its view lacks.
+#[tactic(auto, unfolding(plan::specs::Choice::reported_plan))]
+pub fn report_plan(n: u8, p: ProcessId, view: u8, x: Variables, trust: u8) -> Result<Plan, Refusal>
+    ensures { planned_of x result ≡ report_plan n p.0 view x trust }
 {
-    match receive_choice(q, p, x, front) {
-        ReceiveChoice::Refuse(k) => refusing(k, x),
-        ReceiveChoice::Record(v, i) => quietly(recording(x, q, Pending::Proposal(v, i))),
+    let choice = report_choice(n, p, view, x, trust)?;
+    Ok(Plan {
+        suspects: minus(everyone(n), view),
+        ..reported(view, x, choice)
+    })
+}
+
+// The plan of a process that takes a message, if one waits.
+#[tactic(auto, unfolding(plan::specs::Choice::received_plan))]
+pub fn receive_plan(
+    q: ProcessId,
+    p: ProcessId,
+    x: Variables,
+    front: Option<Message>,
+) -> Result<Plan, Refusal>
+    ensures { planned_of x result ≡ receive_plan q p.0 x front }
+{
+    Ok(match receive_choice(q, p, x, front)? {
+        ReceiveChoice::Record(view, index) => {
+            quietly(recording(x, q, Some(Proposal { view, index })))
+        }
         ReceiveChoice::Skip => quietly(assigning(x)),
         ReceiveChoice::Mark(acks) => quietly(assigning(with_acks(x, acks))),
         ReceiveChoice::CommitAll => {
@@ -160,72 +144,42 @@ pub fn receive_plan(q: ProcessId, p: ProcessId, x: Variables, front: Front) -> P
                 Message::Propose(view, i),
             )
         }
-        ReceiveChoice::Enter(v, i) => quietly(entering(x, i, v)),
-    }
+        ReceiveChoice::Enter(view, i) => quietly(entering(x, i, view)),
+    })
 }
 
 // The plan of an answer to process q.
-pub fn respond_plan(q: ProcessId, x: Variables, pending: Pending) -> Plan
-    ensures { result ≡ respond_plan q x pending }
+#[tactic(auto, unfolding(plan::specs::Choice::responded_plan))]
+pub fn respond_plan(q: ProcessId, x: Variables, pending: Option<Proposal>) -> Result<Plan, Refusal>
+    ensures { planned_of x result ≡ respond_plan q x pending }
 {
-    match respond_choice(x, pending) {
-        RespondChoice::Refuse(k) => refusing(k, x),
-        RespondChoice::Reply(next, m) => {
-            sending(
-                recording(with_next(x, next), q, Pending::Nothing),
-                with(0, q),
-                m,
-            )
-        }
-    }
+    let reply = respond_choice(x, pending)?;
+    Ok(sending(
+        recording(with_next(x, reply.next), q, None),
+        with(0, q),
+        reply.message,
+    ))
 }
 
 // A stop: nothing changes but that the process stops, and nothing is sent.
 pub fn crash_plan(x: Variables) -> Plan
-    ensures { result ≡ crash_plan x }
+    ensures { planned result ≡ crash_plan x }
 {
     Plan {
-        refusal: 0,
-        change: assigning(x),
         stops: true,
-        addressees: 0,
-        message: Message::Propose(0, GroupIndex(0)),
-        suspects: 0,
+        ..quietly(assigning(x))
     }
 }
 
-// The plan, cut after its first k messages: then the process stops.
-fn cut_short(k: u8, a: Plan) -> Plan
-    ensures { result ≡ cut_short k a }
+// The plan of a step, whose action has this plan: whole, or cut after its first messages.
+#[tactic(auto, unfolding(plan::specs::Cut::cut_by, plan::specs::Cut::cut_short, plan::specs::Cut::reach_of, view::specs::Logic::pick))]
+pub fn cut_by(cut: Cut, a: Plan) -> Result<Plan, Refusal>
+    ensures { planned_of a.change.variables result ≡ cut_by cut (planned a) }
 {
-    let change = a.change;
-    let m = a.message;
-    if a.refusal == 0 {
-        let t = reach_of(Cut::After(k), a.addressees);
-        if t.refusal == 0 {
-            Plan {
-                refusal: 0,
-                change,
-                stops: t.stops,
-                addressees: t.addressees,
-                message: m,
-                suspects: a.suspects,
-            }
-        } else {
-            let x = change.variables;
-            refusing(t.refusal, x)
-        }
-    } else {
-        a
-    }
-}
-
-// The plan of a step, whose action has this plan.
-pub fn cut_by(cut: Cut, a: Plan) -> Plan
-    ensures { result ≡ cut_by cut a }
-{
-    match cut {
-        Cut::Whole => a,
-        Cut::After(k) => cut_short(k, a),
-    }
+    let reach = reach_of(cut, a.addressees)?;
+    Ok(Plan {
+        addressees: reach.addressees,
+        stops: a.stops | reach.stops,
+        ..a
+    })
 }

@@ -1,6 +1,6 @@
--- Laws of the engine: its changes in sequence, the room that is left once a message is off, and a list of steps.
-use Prim.Native.Nat.{ℕ, zero, suc, ◌+◌, ◌-◌, ◌≤◌, ◌<◌}
-use mathlib.Core.Path.{◌≡◌, refl, sym, ◌∙◌, ap, subst}
+-- Laws of the room that is left once a message is off.
+use Prim.Native.Nat.{ℕ, zero, suc, ◌-◌, ◌≤◌, ◌<◌}
+use mathlib.Core.Path.{◌≡◌, refl, sym, ap, subst}
 use mathlib.Core.Bool.{Bool, true, false, ◌&&◌, ◌||◌}
 use mathlib.Core.List.{List}
 use native.Mathlib.Omega.{arith}
@@ -9,17 +9,17 @@ use native.Mathlib.Nat.{lt_of_not-le}
 use borrow.Author.Tests.{lt-ltb, le-ltb, eq-eqb, ne_eqb, eqb-true}
 use lib.Dec.{eqb, ltb}
 use lib.ListN.{length}
-use Rattle.view.specs.Logic.{pick, each_up_to, at, put, is_one_of}
-use Rattle.view.specs.View.{has}
-use Rattle.view.proofs.Laws.{by_pick, by_number, and_left, and_right, one_of, at_put_same, at_put_other, at_past, put_past, each_more}
+use Rattle.view.specs.Logic.{pick, at, put, is_one_of}
+use Rattle.view.proofs.Laws.{by_pick, by_number, and_left, and_right, or_right, one_of, at_put_same, at_put_other, at_past, put_past}
 use Rattle.channel.specs.declared.Channel.{Channel}
 use Rattle.channel.specs.Channel.{empty_channel, has_room, popped}
 use Rattle.system.specs.declared.Process.{Process}
 use Rattle.system.specs.declared.System.{System}
-use Rattle.system.specs.System.{process_at, variables_at, channel_number, channel_at, with_channel, with_trust, trusting}
+use Rattle.system.specs.System.{process_at, variables_at, channel_number, channel_at, with_channel}
 use Rattle.system.proofs.Laws.{number_in, number_found}
 use Rattle.plan.specs.declared.Scope.{Scope}
-use Rattle.step.specs.Step.{taken_off, departed, suspected_if_named}
+use Rattle.step.specs.Step.{taken_off}
+use Rattle.effects.specs.Named.{takes}
 
 -- ---- room once a message is off
 taken_process : (s : System) (c : Scope) (k : ℕ) → process_at (taken_off s c) k ≡ process_at s k
@@ -134,22 +134,12 @@ takes_is s c k len e = rw e (go c.takes)
     go true = sym (room_off_lem s c.partner.0 c.actor.0 k)
     go false = or_false _
 
--- ---- trust
--- q leaves p's view, and then the mark (q, p) is on
-pub suspect_made : (s t u : System) (p d q : ℕ) → has d q ≡ true
-    → t ≡ with_trust s (departed s p q s.trust)
-    → u ≡ with_trust t (trusting t.trust q p true)
-    → u ≡ with_trust s (suspected_if_named s p d q s.trust)
-unfolding suspected_if_named with_trust pick
-suspect_made s t u p d q named first second = rw named (second ∙ ap (λ (x : System). with_trust x (trusting x.trust q p true)) first)
+pub takes_with_room : (s : System) (c : Scope) (k len : ℕ) → len ≡ (channel_at s c.actor.0 k).len → len < 8 → ltb len 8 ≡ takes (taken_off s c) c.actor.0 k
+unfolding takes
+takes_with_room s c k len e low =
+    sym (rw (← takes_is s c k len e, lt-ltb len 8 low) (or_right (variables_at (taken_off s c) k).crashed true refl))
 
--- once each of 1 to k has had its turn, one more
-pub doubt_more : (s t u : System) (p d k : ℕ)
-    → t ≡ with_trust s (each_up_to k (suspected_if_named s p d) s.trust)
-    → u ≡ with_trust t (suspected_if_named t p d (k + 1) t.trust)
-    → u ≡ with_trust s (each_up_to (k + 1) (suspected_if_named s p d) s.trust)
-unfolding with_trust suspected_if_named departed process_at
-doubt_more s t u p d k before one =
-    one
-    ∙ ap (λ (x : System). with_trust x (suspected_if_named x p d (k + 1) x.trust)) before
-    ∙ ap (with_trust s) (sym (each_more k (suspected_if_named s p d) s.trust))
+pub takes_when_full : (s : System) (c : Scope) (k len : ℕ) → len ≡ (channel_at s c.actor.0 k).len → 8 ≤ len
+    → ((variables_at s k).crashed || (((c.takes && eqb c.partner.0 c.actor.0) && eqb k c.actor.0) && eqb len 8)) ≡ takes (taken_off s c) c.actor.0 k
+unfolding takes
+takes_when_full s c k len e high = rw (taken_variables s c k, ← takes_is s c k len e, le-ltb len 8 high)

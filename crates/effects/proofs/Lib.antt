@@ -1,3 +1,3 @@
 -- Laws of the parts of a step.
 pub mod Laws
-pub mod Halves
+pub mod Named

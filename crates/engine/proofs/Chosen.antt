@@ -1,91 +1,125 @@
 -- What was chosen is the plan of the action.
 use Prim.Native.Nat.{ℕ, ◌+◌}
-use mathlib.Core.Path.{◌≡◌, sym, ◌∙◌}
-use mathlib.Core.Bool.{true, not}
-use lib.Dec.{eqb, ltb}
+use mathlib.Core.Path.{◌≡◌, refl, ◌∙◌}
+use mathlib.Core.List.{List}
+use borrow.Author.Tests.{lt-ltb}
+use lib.Dec.{ltb}
+use Rattle.std.specs.Prelude.{Result, Ok, Err, Option, IfOk}
+use Rattle.std.specs.Result.{IsErrAnd}
+use Rattle.std.proofs.lemmas.Result.{err_from_is_err_and}
 use Rattle.view.specs.Logic.{pick}
 use Rattle.view.specs.View.{minus, everyone}
 use Rattle.view.specs.declared.ProcessId.{ProcessId}
 use Rattle.view.specs.declared.GroupIndex.{GroupIndex}
-use Rattle.view.proofs.Laws.{true_is_not_false}
-use Rattle.channel.specs.declared.Message.TheVariants.{Propose, Commit}
-use Rattle.channel.specs.declared.Front.{Front}
+use Rattle.channel.specs.declared.Message.{Message}
+use Rattle.channel.specs.declared.Message.TheVariants.{Propose}
 use Rattle.channel.specs.Channel.{front}
-use Rattle.system.specs.declared.Pending.{Pending}
 use Rattle.system.specs.declared.Variables.{Variables}
-use Rattle.system.specs.declared.System.{System}
-use Rattle.system.specs.Process.{pending_at}
+use Rattle.system.specs.declared.refusal.Refusal.{Refusal}
+use Rattle.system.specs.Refusal.{number, answer_number}
+use Rattle.system.specs.Process.{pending_at, Pending}
 use Rattle.system.specs.System.{process_at, variables_at, channel_at, trust_at}
-use Rattle.plan.specs.declared.Action.TheVariants.{Report, Receive, Respond}
+use Rattle.plan.specs.declared.Action.TheVariants.{Report, Receive, Respond, Crash}
+use Rattle.plan.specs.declared.Cut.{Cut}
+use Rattle.plan.specs.declared.Step.{Step}
+use Rattle.plan.specs.declared.Reply.{Reply}
 use Rattle.plan.specs.declared.ReportChoice.{ReportChoice}
 use Rattle.plan.specs.declared.ReportChoice.TheVariants.{ProposeAfter}
-use Rattle.plan.specs.declared.ReportChoice.TheVariants.{Refuse as RefuseReport}
 use Rattle.plan.specs.declared.ReceiveChoice.{ReceiveChoice}
-use Rattle.plan.specs.declared.ReceiveChoice.TheVariants.{CommitAll, ProposeAgain}
-use Rattle.plan.specs.declared.ReceiveChoice.TheVariants.{Refuse as RefuseReceive}
-use Rattle.plan.specs.declared.RespondChoice.{RespondChoice}
-use Rattle.plan.specs.declared.RespondChoice.TheVariants.{Refuse as RefuseRespond}
-use Rattle.plan.specs.Fields.{with_acks, proposing, reproposing}
-use Rattle.plan.specs.Plan.{assigning, sending, doubting, report_plan, receive_plan, respond_plan}
-use Rattle.plan.specs.Choice.{reported_plan, report_fits, received_plan, receive_numbered, responded_plan, respond_numbered}
+use Rattle.plan.specs.Fields.{proposing}
+use Rattle.plan.specs.Plan.{Planned, assigning, sending, refusing, doubting, report_plan, receive_plan, respond_plan}
+use Rattle.plan.specs.Choice.{reported_plan, report_fits, received_plan, responded_plan}
+use Rattle.plan.specs.Cut.{only_whole}
 use Rattle.plan.proofs.Choices.{propout_below}
-use Rattle.step.specs.Step.{plan_of}
+use Rattle.step.specs.Scope.{scope_of, facing, taking}
+use Rattle.step.specs.Step.{plan_of, taken_off, crashed_at}
+use Rattle.image.specs.Image.{system_in}
+use Rattle.alternatives.specs.Gives.{Gives, carried}
+use Rattle.alternatives.proofs.Carrying.{refusing_gives, not_stopped, stop_done}
+use Rattle.engine.specs.Engine.{Attempts}
+use Rattle.engine.proofs.Given.{guarded, passes}
 
-numbered : (k : ℕ) → not (eqb k 0) ≡ true → k ≡ 0 → ⊥
-numbered k e z = true_is_not_false (sym e ∙ rw z)
+-- a plan that is a refusal
+module _ (b : List ℕ) (o : Step) (u : Unit {0}) (guard : Ok u ≡ guarded (system_in b) (scope_of o.action)) where
+  refuses : (v : Variables) (x : Result (Unit {0}) Refusal) (r : Refusal) → IsErrAnd x (λ y. y ≡ r) → refusing (number r) v ≡ plan_of (system_in b) o.action
+      → Attempts o b (answer_number x) b
+  refuses v x r passed plan =
+      let y = err_from_is_err_and x passed in
+      rw (y.1, y.2) (passes b o u guard _ _ _ (refusing_gives b _ _ o.cut v r) plan)
 
-pub report-refused : (x : Variables) {r : ReportChoice} (k : ℕ) → r ≡ RefuseReport k → report_fits x r ≡ true → k ≡ 0 → ⊥
-unfolding report_fits
-report-refused x k told e = numbered k (rw told at e)
+module _ (b : List ℕ) (p : ProcessId) (view : ℕ) (cut : Cut) where
+  abbrev report : Step
+  report = record { action = Report p view; cut = cut }
 
-pub receive-refused : {r : ReceiveChoice} (k : ℕ) → r ≡ RefuseReceive k → receive_numbered r ≡ true → k ≡ 0 → ⊥
-unfolding receive_numbered
-receive-refused k told e = numbered k (rw told at e)
+  module _ (u : Unit {0}) (guard : Ok u ≡ guarded (system_in b) (facing p p)) (n : ℕ) (x : Variables) (trust : ℕ) (y : Result ReportChoice Refusal)
+      (size : n ≡ (system_in b).n) (variables : x ≡ variables_at (system_in b) p.0) (may : trust ≡ trust_at (system_in b) p.0)
+      (chosen : reported_plan n view x y ≡ report_plan n p.0 view x trust) where
+    planned : reported_plan n view x y ≡ plan_of (system_in b) (Report p view)
+    unfolding plan_of
+    planned = chosen ∙ rw (size, variables, may)
 
-pub respond-refused : {r : RespondChoice} (k : ℕ) → r ≡ RefuseRespond k → respond_numbered r ≡ true → k ≡ 0 → ⊥
-unfolding respond_numbered
-respond-refused k told e = numbered k (rw told at e)
+    pub report_refused : (z : Result (Unit {0}) Refusal) (r : Refusal) → IsErrAnd z (λ w. w ≡ r) → y ≡ Err r → Attempts report b (answer_number z) b
+    unfolding reported_plan scope_of
+    report_refused z r passed told = refuses b report u guard x z r passed (rw told at planned)
 
-module _ (s : System) (p : ProcessId) (v n : ℕ) (x : Variables) (trust : ℕ) (r : ReportChoice) where
-  pub report-chosen : (t : ReportChoice) → r ≡ t → n ≡ s.n → x ≡ variables_at s p.0 → trust ≡ trust_at s p.0
-      → reported_plan n v x r ≡ report_plan n p.0 v x trust
-      → reported_plan s.n v (variables_at s p.0) t ≡ plan_of s (Report p v)
-  unfolding plan_of
-  report-chosen t told size variables trusts chosen = rw (told, size, variables, trusts) at chosen
+    pub reported : (a : Planned) (k : ℕ) (d : List ℕ) → Gives (carried (system_in b) (facing p p) cut a) b k d → a ≡ reported_plan n view x y → Attempts report b k d
+    unfolding scope_of
+    reported a k d gives is = passes b report u guard a k d gives (is ∙ planned)
 
-  pub after_chosen : (i : GroupIndex) → i ≡ record { 0 = pick (ltb x.propout.0 32) (x.propout.0 + 1) x.propout.0 }
-      → r ≡ ProposeAfter → report_fits x r ≡ true → n ≡ s.n → x ≡ variables_at s p.0 → trust ≡ trust_at s p.0
-      → reported_plan n v x r ≡ report_plan n p.0 v x trust
-      → doubting (minus (everyone s.n) v) (sending (assigning (proposing (variables_at s p.0) v i.0)) v (Propose v i)) ≡ plan_of s (Report p v)
-  unfolding reported_plan pick
-  after_chosen i counted told fits size variables trusts chosen =
-      rw (counted, propout_below x told fits, variables) (report-chosen ProposeAfter told size variables trusts chosen)
+    pub proposed : (i : GroupIndex) (k : ℕ) (d : List ℕ) → i ≡ record { 0 = pick (ltb x.propout.0 32) (x.propout.0 + 1) x.propout.0 }
+        → y ≡ Ok ProposeAfter → IfOk y (report_fits x)
+        → Gives (carried (system_in b) (facing p p) cut (doubting (minus (everyone (system_in b).n) view) (sending (assigning (proposing (variables_at (system_in b) p.0) view i.0)) view (Propose view i)))) b k d
+        → Attempts report b k d
+    unfolding reported_plan pick
+    proposed i k d counted told fits gives =
+        reported _ k d gives (rw (told, counted, lt-ltb x.propout.0 32 (propout_below x told fits), size, variables))
 
-module _ (s : System) (q p : ProcessId) (x : Variables) (f : Front) (r : ReceiveChoice) where
-  pub receive-chosen : (t : ReceiveChoice) → r ≡ t → x ≡ variables_at s p.0 → f ≡ front (channel_at s q.0 p.0)
-      → received_plan q x r ≡ receive_plan q p.0 x f
-      → received_plan q (variables_at s p.0) t ≡ plan_of s (Receive q p)
-  unfolding plan_of
-  receive-chosen t told variables oldest chosen = rw (told, variables, oldest) at chosen
+module _ (b : List ℕ) (q p : ProcessId) (cut : Cut) where
+  abbrev take : Step
+  take = record { action = Receive q p; cut = cut }
 
-  -- of what is sent, the variables after it are another function's
-  pub commit_chosen : (y : Variables) → y ≡ with_acks x 0 → r ≡ CommitAll → x ≡ variables_at s p.0 → f ≡ front (channel_at s q.0 p.0)
-      → received_plan q x r ≡ receive_plan q p.0 x f
-      → sending (assigning y) x.proposal (Commit x.proposal x.propout) ≡ plan_of s (Receive q p)
-  unfolding received_plan
-  commit_chosen y becomes told variables oldest chosen =
-      rw (becomes, variables) (receive-chosen CommitAll told variables oldest chosen)
+  module _ (u : Unit {0}) (guard : Ok u ≡ guarded (system_in b) (taking q p)) (x : Variables) (f : Option Message) (y : Result ReceiveChoice Refusal)
+      (variables : x ≡ variables_at (system_in b) p.0) (oldest : f ≡ front (channel_at (system_in b) q.0 p.0))
+      (chosen : received_plan q x y ≡ receive_plan q p.0 x f) where
+    received_as : received_plan q x y ≡ plan_of (system_in b) (Receive q p)
+    unfolding plan_of
+    received_as = chosen ∙ rw (variables, oldest)
 
-  pub propose_chosen : (i : GroupIndex) (y : Variables) → y ≡ reproposing x i.0 → r ≡ ProposeAgain i → x ≡ variables_at s p.0 → f ≡ front (channel_at s q.0 p.0)
-      → received_plan q x r ≡ receive_plan q p.0 x f
-      → sending (assigning y) x.view (Propose x.view i) ≡ plan_of s (Receive q p)
-  unfolding received_plan
-  propose_chosen i y becomes told variables oldest chosen =
-      rw (becomes, variables) (receive-chosen (ProposeAgain i) told variables oldest chosen)
+    pub receive_refused : (z : Result (Unit {0}) Refusal) (r : Refusal) → IsErrAnd z (λ w. w ≡ r) → y ≡ Err r → Attempts take b (answer_number z) b
+    unfolding received_plan scope_of
+    receive_refused z r passed told = refuses b take u guard x z r passed (rw told at received_as)
 
-module _ (s : System) (p q : ProcessId) (x : Variables) (f : Pending) (r : RespondChoice) where
-  pub respond-chosen : (t : RespondChoice) → r ≡ t → x ≡ variables_at s p.0 → f ≡ pending_at (process_at s p.0) q.0
-      → responded_plan q x r ≡ respond_plan q x f
-      → responded_plan q (variables_at s p.0) t ≡ plan_of s (Respond p q)
-  unfolding plan_of
-  respond-chosen t told variables recorded chosen = rw (told, variables, recorded) at chosen
+    pub received : (a : Planned) (k : ℕ) (d : List ℕ) → Gives (carried (system_in b) (taking q p) cut a) b k d → a ≡ received_plan q x y → Attempts take b k d
+    unfolding scope_of
+    received a k d gives is = passes b take u guard a k d gives (is ∙ received_as)
+
+module _ (b : List ℕ) (p q : ProcessId) (cut : Cut) where
+  abbrev answer : Step
+  answer = record { action = Respond p q; cut = cut }
+
+  module _ (u : Unit {0}) (guard : Ok u ≡ guarded (system_in b) (facing p q)) (x : Variables) (f : Pending) (y : Result Reply Refusal)
+      (variables : x ≡ variables_at (system_in b) p.0) (recorded : f ≡ pending_at (process_at (system_in b) p.0) q.0)
+      (chosen : (w : ProcessId) → responded_plan w x y ≡ respond_plan w x f) where
+    responded_as : responded_plan q x y ≡ plan_of (system_in b) (Respond p q)
+    unfolding plan_of
+    responded_as = chosen q ∙ rw (variables, recorded)
+
+    pub respond_refused : (z : Result (Unit {0}) Refusal) (r : Refusal) → IsErrAnd z (λ w. w ≡ r) → y ≡ Err r → Attempts answer b (answer_number z) b
+    unfolding responded_plan scope_of
+    respond_refused z r passed told = refuses b answer u guard x z r passed (rw told at responded_as)
+
+    pub responded : (a : Planned) (k : ℕ) (d : List ℕ) → Gives (carried (system_in b) (facing p q) cut a) b k d → a ≡ responded_plan q x y → Attempts answer b k d
+    unfolding scope_of
+    responded a k d gives is = passes b answer u guard a k d gives (is ∙ responded_as)
+
+module _ (b : List ℕ) (p : ProcessId) (cut : Cut) (u : Unit {0}) (guard : Ok u ≡ guarded (system_in b) (facing p p)) where
+  abbrev stop : Step
+  stop = record { action = Crash p; cut = cut }
+
+  pub crash_refused : (z : Result (Unit {0}) Refusal) (r : Refusal) → IsErrAnd z (λ w. w ≡ r) → Err r ≡ only_whole cut → Attempts stop b (answer_number z) b
+  unfolding plan_of taken_off scope_of pick
+  crash_refused z r passed told = passes b stop u guard _ _ _ (not_stopped b (system_in b) p.0 cut z r passed told) refl
+
+  pub crashed : (x : Unit {0}) (d : List ℕ) → Ok x ≡ only_whole cut → system_in d ≡ crashed_at (system_in b) p.0 → Attempts stop b 0 d
+  unfolding plan_of taken_off scope_of pick
+  crashed x d told stops = passes b stop u guard _ _ _ (stop_done b (system_in b) p.0 cut x d told stops) refl

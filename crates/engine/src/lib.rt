@@ -1,8 +1,10 @@
 // The one place where a step is done: on the image that the caller lends.
 #![tactic(auto)]
 
-ghost use Rattle.std.specs.Prelude.{◌≡◌, ◌&&◌};
+ghost use Rattle.std.specs.Prelude.{◌≡◌, ◌&&◌, Ok, Err};
 ghost use Rattle.view.specs.Logic.{pick, is_one_of};
+ghost use Rattle.system.specs.declared.refusal.Refusal.TheVariants.{Stranger, Crashed};
+ghost use Rattle.system.specs.Refusal.{answer_number};
 ghost use Rattle.system.specs.System.{variables_at};
 ghost use Rattle.plan.specs.declared.Action.{Action};
 ghost use Rattle.step.specs.Step.{stepped};
@@ -18,130 +20,96 @@ use channel::Message;
 use effects::crash;
 use image::{front_at, pending_at, size, trust_at, variables_at};
 use plan::{
-    Action, Cut, ReceiveChoice, ReportChoice, RespondChoice, Step, after, quiet_refusal,
-    receive_choice, report_choice, reproposing, respond_choice, with_acks,
+    Action, Cut, ReceiveChoice, Reply, ReportChoice, Step, after, receive_choice, report_choice,
+    reproposing, require_whole, respond_choice, with_acks,
 };
-use system::refusal::{CRASHED, STRANGER, UNSOUND};
-use view::{ProcessId, and, is_one_of};
+use system::refusal::Refusal;
+use view::{ProcessId, is_one_of};
 
-// Refusals 2 and 3, or 0: process p acts, and the action names process q too.
-fn guard(image: &[u8], p: ProcessId, q: ProcessId) -> u8
-    ensures { result ≡ pick (is_one_of (system_in image.now).n p.0 && is_one_of (system_in image.now).n q.0) (pick (variables_at (system_in image.now) p.0).crashed 3 0) 2 }
+// Refusals 2 and 3: process p acts, and the action names process q too.
+#[tactic(auto, unfolding(view::specs::Logic::pick))]
+fn guard(image: &[u8], p: ProcessId, q: ProcessId) -> Result<(), Refusal>
+    ensures { result ≡ pick (is_one_of (system_in image.now).n p.0 && is_one_of (system_in image.now).n q.0) (pick (variables_at (system_in image.now) p.0).crashed (Err Crashed) (Ok tt)) (Err Stranger) }
 {
     let n = size(image);
-    if and(is_one_of(n, p), is_one_of(n, q)) {
-        let x = variables_at(image, p);
-        if x.crashed { CRASHED } else { 0 }
+    if !(is_one_of(n, p) & is_one_of(n, q)) {
+        Err(Refusal::Stranger)
+    } else if variables_at(image, p).crashed {
+        Err(Refusal::Crashed)
     } else {
-        STRANGER
+        Ok(())
     }
 }
 
 // The four functions for a step take the system to be sound, as `attempt` does: internal, as that is.
 // Process p is told its view.
-pub fn do_report(image: &mut [u8], p: ProcessId, view: u8, cut: Cut) -> u8
-    ensures { Attempts (record { action = Action.Report p view; cut = cut }) image.old result image.new }
+pub fn do_report(image: &mut [u8], p: ProcessId, view: u8, cut: Cut) -> Result<(), Refusal>
+    ensures { Attempts (record { action = Action.Report p view; cut = cut }) image.old (answer_number result) image.new }
 {
-    let refusal = guard(image, p, p);
-    if refusal == 0 {
-        let n = size(image);
-        let x = variables_at(image, p);
-        match report_choice(n, p, view, x, trust_at(image, p)) {
-            ReportChoice::Refuse(k) => k,
-            ReportChoice::Adopt => adopt_view(image, p, view, cut),
-            ReportChoice::ProposeAfter => { propose_view(image, p, view, after(x.propout), cut) }
-        }
-    } else {
-        refusal
+    guard(image, p, p)?;
+    let n = size(image);
+    let x = variables_at(image, p);
+    match report_choice(n, p, view, x, trust_at(image, p))? {
+        ReportChoice::Adopt => adopt_view(image, p, view, cut),
+        ReportChoice::ProposeAfter => propose_view(image, p, view, after(x.propout), cut),
     }
 }
 
 // Process p takes the oldest message from process q.
-pub fn do_receive(image: &mut [u8], q: ProcessId, p: ProcessId, cut: Cut) -> u8
-    ensures { Attempts (record { action = Action.Receive q p; cut = cut }) image.old result image.new }
+pub fn do_receive(image: &mut [u8], q: ProcessId, p: ProcessId, cut: Cut) -> Result<(), Refusal>
+    ensures { Attempts (record { action = Action.Receive q p; cut = cut }) image.old (answer_number result) image.new }
 {
-    let refusal = guard(image, p, q);
-    if refusal == 0 {
-        let x = variables_at(image, p);
-        match receive_choice(q, p, x, front_at(image, q, p)) {
-            ReceiveChoice::Refuse(k) => k,
-            ReceiveChoice::Record(view, i) => record_proposal(image, q, p, cut, view, i),
-            ReceiveChoice::Skip => skip_message(image, q, p, cut),
-            ReceiveChoice::Mark(acks) => mark_acks(image, q, p, cut, acks),
-            ReceiveChoice::CommitAll => {
-                let view = x.proposal;
-                let i = x.propout;
-                send_taken(
-                    image,
-                    q,
-                    p,
-                    cut,
-                    with_acks(x, 0),
-                    view,
-                    Message::Commit(view, i),
-                )
-            }
-            ReceiveChoice::ProposeAgain(i) => {
-                let view = x.view;
-                send_taken(
-                    image,
-                    q,
-                    p,
-                    cut,
-                    reproposing(x, i),
-                    view,
-                    Message::Propose(view, i),
-                )
-            }
-            ReceiveChoice::Enter(view, i) => enter_view(image, q, p, cut, view, i),
+    guard(image, p, q)?;
+    let x = variables_at(image, p);
+    match receive_choice(q, p, x, front_at(image, q, p))? {
+        ReceiveChoice::Record(view, i) => record_proposal(image, q, p, cut, view, i),
+        ReceiveChoice::Skip => skip_message(image, q, p, cut),
+        ReceiveChoice::Mark(acks) => mark_acks(image, q, p, cut, acks),
+        ReceiveChoice::CommitAll => {
+            let view = x.proposal;
+            let commit = Message::Commit(view, x.propout);
+            send_taken(image, q, p, cut, with_acks(x, 0), view, commit)
         }
-    } else {
-        refusal
+        ReceiveChoice::ProposeAgain(i) => {
+            let view = x.view;
+            let propose = Message::Propose(view, i);
+            send_taken(image, q, p, cut, reproposing(x, i), view, propose)
+        }
+        ReceiveChoice::Enter(view, i) => enter_view(image, q, p, cut, view, i),
     }
 }
 
 // Process p answers what it has recorded from process q.
-pub fn do_respond(image: &mut [u8], p: ProcessId, q: ProcessId, cut: Cut) -> u8
-    ensures { Attempts (record { action = Action.Respond p q; cut = cut }) image.old result image.new }
+pub fn do_respond(image: &mut [u8], p: ProcessId, q: ProcessId, cut: Cut) -> Result<(), Refusal>
+    ensures { Attempts (record { action = Action.Respond p q; cut = cut }) image.old (answer_number result) image.new }
 {
-    let refusal = guard(image, p, q);
-    if refusal == 0 {
-        let x = variables_at(image, p);
-        match respond_choice(x, pending_at(image, p, q)) {
-            RespondChoice::Refuse(k) => k,
-            RespondChoice::Reply(next, m) => reply(image, p, q, cut, next, m),
-        }
-    } else {
-        refusal
-    }
+    guard(image, p, q)?;
+    let x = variables_at(image, p);
+    let Reply { next, message } = respond_choice(x, pending_at(image, p, q))?;
+    reply(image, p, q, cut, next, message)
 }
 
 // Process p stops for good.
-pub fn do_crash(image: &mut [u8], p: ProcessId, cut: Cut) -> u8
-    ensures { Attempts (record { action = Action.Crash p; cut = cut }) image.old result image.new }
+#[tactic(auto, using(crate::proofs::Chosen::crash_refused, crate::proofs::Chosen::crashed))]
+pub fn do_crash(image: &mut [u8], p: ProcessId, cut: Cut) -> Result<(), Refusal>
+    ensures { Attempts (record { action = Action.Crash p; cut = cut }) image.old (answer_number result) image.new }
 {
-    let refusal = guard(image, p, p);
-    if refusal == 0 {
-        let late = quiet_refusal(cut);
-        if late == 0 {
-            crash(image, p);
-            0
-        } else {
-            late
-        }
-    } else {
-        refusal
-    }
+    guard(image, p, p)?;
+    require_whole(cut)?;
+    crash(image, p);
+    Ok(())
 }
 
 // ---- any step
-// The step, on an image whose system is taken to be sound: internal to runs that know it to be so.
-pub fn attempt(image: &mut [u8], o: Step) -> u8
-    ensures { Attempts o image.old result image.new }
+// The step, on an image whose system is taken to be sound: internal to runs that know it to be so. Inlined:
+// a list of steps takes a tenth less.
+#[tactic(auto, using(crate::proofs::Given::of_action))]
+#[inline(always)]
+pub fn attempt(image: &mut [u8], o: Step) -> Result<(), Refusal>
+    ensures { Attempts o image.old (answer_number result) image.new }
 {
-    let action = o.action;
     let cut = o.cut;
-    match action {
+    match o.action {
         Action::Report(p, view) => do_report(image, p, view, cut),
         Action::Receive(q, p) => do_receive(image, q, p, cut),
         Action::Respond(p, q) => do_respond(image, p, q, cut),
@@ -150,12 +118,13 @@ pub fn attempt(image: &mut [u8], o: Step) -> u8
 }
 
 // One step of any kind.
-pub fn perform(image: &mut [u8], o: Step) -> u8
-    ensures { Gives (stepped (system_in image.old) o) image.old result image.new }
+#[tactic(auto, unfolding(step::specs::Step::stepped, view::specs::Logic::pick))]
+pub fn perform(image: &mut [u8], o: Step) -> Result<(), Refusal>
+    ensures { Gives (stepped (system_in image.old) o) image.old (answer_number result) image.new }
 {
     if integrity::sound(image) {
         attempt(image, o)
     } else {
-        UNSOUND
+        Err(Refusal::Unsound)
     }
 }

@@ -1,46 +1,120 @@
--- Laws of a list of steps: one order more.
-use Prim.Native.Nat.{ℕ, zero, suc, ◌+◌, ◌-◌, ◌*◌, ◌/◌, ◌%◌, ◌<◌, ◌≤◌, min}
+-- Laws of a list of steps: what an order says, and one order more.
+use Prim.Native.Nat.{ℕ, zero, suc, ◌+◌, ◌-◌, ◌*◌, ◌%◌, ◌<◌, ◌≤◌, min}
 use mathlib.Core.Path.{◌≡◌, refl, sym, ◌∙◌, ap}
 use mathlib.Core.Bool.{Bool, true, false, ◌&&◌, not}
 use mathlib.Core.List.{List, [], ◌∷◌, ◌++◌, append_assoc, append-nil}
+use native.Mathlib.Decide.{dec_le}
+use native.Mathlib.Nat.{lt_of_not-le, add-zero}
 use native.Mathlib.Omega.{arith}
-use native.Mathlib.Nat.{not-suc-le-zero, le_of_suc-le-suc}
-use native.Mathlib.Numerals.{add-one}
-use borrow.Author.Tests.{eq-eqb, ne_eqb, lt-ltb, le-ltb}
+use borrow.Author.Tests.{eq-eqb, eqb-true, eqb-false, lt-ltb, le-ltb}
 use lib.Dec.{eqb}
-use lib.ListN.{length, take, drop, get_or, set, length-set, take-append-drop}
+use lib.ListN.{length, take, drop, get_or, set, length-set, take-append-drop, get_or-append}
+use lib.Seq.{drop-length}
+use Rattle.std.specs.Prelude.{Result, Ok, Err}
+use Rattle.std.specs.Result.{IsErrAnd}
+use Rattle.std.specs.Int.{div_ceil}
+use Rattle.std.proofs.lemmas.List.{take_more_set, drop-set-lt, drop_more, drop_at, drop_all, drop-drop, get_or-drop, length-drop}
 use Rattle.view.specs.Logic.{pick}
-use Rattle.view.proofs.Laws.{by_number, and_left, and_right, and_intro, true_is_not_false}
+use Rattle.view.proofs.Laws.{by_test, and_left, and_right, and_intro, true_is_not_false}
 use Rattle.system.specs.declared.System.{System}
-use Rattle.system.specs.declared.Outcome.{Outcome}
-use Rattle.system.specs.System.{refused}
+use Rattle.system.specs.declared.refusal.Refusal.{Refusal}
+use Rattle.system.specs.declared.refusal.Refusal.TheVariants.{Unsound, BadLine}
+use Rattle.system.specs.Refusal.{answer_number}
+use Rattle.system.specs.Outcome.{Outcome}
 use Rattle.sound.specs.Sound.{sound_system}
-use Rattle.plan.specs.declared.Action.TheVariants.{Report, Receive, Respond, Crash}
-use Rattle.plan.specs.declared.Cut.{Cut}
 use Rattle.plan.specs.declared.Step.{Step}
 use Rattle.step.specs.Step.{stepped}
 use Rattle.image.specs.Image.{system_in}
 use Rattle.alternatives.specs.Gives.{Gives}
-use Rattle.engine.specs.Engine.{Attempts}
-use Rattle.list.specs.List.{cut_of, Order, Unknown, Do, ordered, order_of, order_count, order_at, orders_from, obeyed, numbers_of, system_after, all_refused}
+use Rattle.alternatives.proofs.Carrying.{refused_gives, answer_gives}
+use Rattle.list.specs.List.{cut_of, Order, order_of, order_count, order_at, orders_from, orders_in, obeyed, numbers_of, system_after, all_refused, Performs}
 
-take-set : (l : List ℕ) (k r : ℕ) → k < length l → take (suc k) (set l k r) ≡ take k l ++ (r ∷ [])
-take-set [] k r h = absurd (not-suc-le-zero h)
-take-set (x ∷ l) zero r h = refl
-take-set (x ∷ l) (suc k) r h = ap (λ (m : List ℕ). x ∷ m) (take-set l k r (le_of_suc-le-suc h))
+-- ---- an order
+module _ (order : List ℕ) where
+  abbrev said : Order
+  said = order_of (get_or order 0 0) (get_or order 1 0) (get_or order 2 0) (cut_of (get_or order 3 0))
 
-drop-set : (l : List ℕ) (k r : ℕ) → drop (suc k) (set l k r) ≡ drop (suc k) l
-drop-set [] k r = refl
-drop-set (x ∷ l) zero r = refl
-drop-set (x ∷ l) (suc k) r = drop-set l k r
+  says : 4 ≤ length order → order_at order 0 ≡ said
+  unfolding order_at pick
+  says long = rw (lt-ltb 3 (length order - 0) (omega arith))
 
-drop-one : (l : List ℕ) (k : ℕ) → drop (suc k) l ≡ drop 1 (drop k l)
-drop-one [] zero = refl
-drop-one [] (suc k) = refl
-drop-one (x ∷ l) zero = refl
-drop-one (x ∷ l) (suc k) = drop-one l k
+  module _ (b : List ℕ) where
+    -- bytes that break off inside a step are no step
+    pub broken_off : length order < 4 → Gives (obeyed (system_in b) (order_at order 0)) b 8 b
+    unfolding obeyed order_at pick
+    broken_off short = refused_gives b _ BadLine (rw (le-ltb 3 (length order - 0) (omega arith)))
 
--- after k of all orders: the numbers so far are the first of the slice m, and the rest of m is as it was; s is the system then
+    pub no_order : (x : Result (Unit {0}) Refusal) (r : Refusal) → IsErrAnd x (λ y. y ≡ r) → 4 ≤ length order → Err r ≡ said
+        → Gives (obeyed (system_in b) (order_at order 0)) b (answer_number x) b
+    unfolding obeyed
+    no_order x r passed long told = answer_gives b _ x r passed (rw (says long, ← told))
+
+    pub obeys : (o : Step) (k : ℕ) (d : List ℕ) → 4 ≤ length order → Ok o ≡ said → sound_system (system_in b) ≡ true
+        → (sound_system (system_in b) ≡ true → Gives (stepped (system_in b) o) b k d)
+        → Gives (obeyed (system_in b) (order_at order 0)) b k d
+    unfolding obeyed
+    obeys o k d long told sound steps = let g = steps sound in record { outcome = g.outcome ∙ sym (rw (says long, ← told)); kept = g.kept }
+
+    pub not_obeyed : (o : Step) → 4 ≤ length order → Ok o ≡ said → sound_system (system_in b) ≡ false → Gives (obeyed (system_in b) (order_at order 0)) b 1 b
+    unfolding obeyed stepped pick
+    not_obeyed o long told off = refused_gives b _ Unsound (rw (says long, ← told, off))
+
+-- ---- how many orders there are
+order_left : (list : List ℕ) (i : ℕ) → 0 < length list - 4 * i → i < order_count list
+unfolding order_count pick
+order_left list i some = by_test (eqb (length list % 4) 0) (λ e. rw e (omega (arith, eqb-true (length list % 4) 0 e))) (λ e. rw e (omega arith))
+
+pub none_left : (list : List ℕ) (i : ℕ) → length (drop (4 * i) list) ≡ 0 → order_count list ≤ i
+unfolding order_count pick
+none_left list i none =
+    let over : length list ≤ 4 * i = omega (arith, length-drop (4 * i) list) in
+    by_test (eqb (length list % 4) 0) (λ e. rw e (omega arith)) (λ e. rw e (omega (arith, eqb-false (length list % 4) 0 e)))
+
+counted : (list : List ℕ) → div_ceil (length list) 4 ≡ order_count list
+unfolding order_count pick
+counted list = by_test (eqb (length list % 4) 0) (λ e. rw e (omega (arith, eqb-true (length list % 4) 0 e))) (λ e. rw e (omega (arith, eqb-false (length list % 4) 0 e)))
+
+-- ---- the next piece of a list that is cut into fours
+module _ (list here chunk rest : List ℕ) (i : ℕ) (left : here ≡ drop (4 * i) list) (cut : here ≡ chunk ++ rest) (size : length chunk ≡ min 4 (length here)) where
+  pub next_piece : rest ≡ drop (4 * (i + 1)) list
+  next_piece =
+      elim (dec_le 4 (length here)) [
+        | yes p ↦
+            let four : length chunk ≡ 4 = omega arith in
+            let place : 4 * i + 4 ≡ 4 * (i + 1) = omega arith in
+            sym (drop_at chunk rest 4 four) ∙ ap (drop 4) (sym cut ∙ left) ∙ drop-drop 4 (4 * i) list ∙ ap (λ n. drop n list) place
+        | no n ↦
+            let all : length chunk ≡ length here = omega (arith, lt_of_not-le n) in
+            let past : length list ≤ 4 * (i + 1) = omega (arith, lt_of_not-le n, ap length left, length-drop (4 * i) list) in
+            let gone : rest ≡ [] = sym (drop_at chunk rest (length here) all) ∙ ap (drop (length here)) (sym cut) ∙ drop-length here in
+            gone ∙ sym (drop_all (4 * (i + 1)) list past)
+      ]
+
+  byte_at : (j : ℕ) → j < length chunk → get_or chunk j 0 ≡ get_or list (4 * i + j) 0
+  byte_at j h = sym (get_or-append chunk rest 0 j h) ∙ rw (← cut, left) (get_or-drop (4 * i) list j 0)
+
+  -- it begins with the order that stands there
+  pub same_order : order_at chunk 0 ≡ order_at list (4 * i)
+  unfolding order_at pick
+  same_order =
+      elim (dec_le 4 (length chunk)) [
+        | yes p ↦
+            let first : get_or chunk 0 0 ≡ get_or list (4 * i) 0 = byte_at 0 (omega arith) ∙ rw add-zero in
+            let second = byte_at 1 (omega arith) in
+            let third = byte_at 2 (omega arith) in
+            let last = byte_at 3 (omega arith) in
+            says chunk p ∙ rw (lt-ltb 3 (length list - 4 * i) (omega (arith, ap length left, length-drop (4 * i) list)), first, second, third, last)
+        | no n ↦
+            rw (
+              le-ltb 3 (length chunk - 0) (omega (arith, lt_of_not-le n)),
+              le-ltb 3 (length list - 4 * i) (omega (arith, lt_of_not-le n, ap length left, length-drop (4 * i) list)),
+            )
+      ]
+
+  pub one_left : 0 < length here → i < order_count list
+  one_left some = order_left list i (omega (arith, ap length left, length-drop (4 * i) list))
+
+-- ---- after k of all orders: the numbers so far are the first of the slice m, and the rest of m is as it was; s is the system then
 pub record SoFar (list : List ℕ) (first : System) (m₀ : List ℕ) (all k : ℕ) (s : System) (m : List ℕ) : Type 0 where
   pub within : k ≤ all
   pub long : length m ≡ length m₀
@@ -67,12 +141,15 @@ module _ (list : List ℕ) (first : System) (m₀ : List ℕ) (all : ℕ) where
       let number : (obeyed s (order_at list (4 * k))).refusal ≡ r = sym (ap (λ (a : Outcome). a.refusal) (obeys ∙ ap (obeyed s) order)) in
       let after : (obeyed s (order_at list (4 * k))).system ≡ t = sym (ap (λ (a : Outcome). a.system) (obeys ∙ ap (obeyed s) order)) in
       let more = rw (next_order k h) at so_far.numbers in
+      let old = drop_more m k 0 room in
+      let new = drop_more m₀ k 0 (rw so_far.long at room) in
+      let same : drop (k + 1) m ≡ drop (k + 1) m₀ = cc (old, new, so_far.rest) in
       record {
         within = omega arith;
         long = length-set m k r ∙ so_far.long;
-        numbers = (rw (number, after) at more) ∙ sym (rw (add-one k, take-set m k r room, append_assoc));
+        numbers = (rw (number, after) at more) ∙ sym (rw (take_more_set m k r room, append_assoc));
         system = so_far.system ∙ ap (system_after s) (next_order k h) ∙ ap (λ (u : System). system_after u (orders_from (all - (k + 1)) list (k + 1))) after;
-        rest = rw add-one (drop-set m k r ∙ drop-one m k ∙ ap (drop 1) so_far.rest ∙ sym (drop-one m₀ k));
+        rest = drop-set-lt (k + 1) m k r (omega arith) ∙ same;
       }
 
   -- the numbers of all orders are the first of the slice
@@ -95,10 +172,6 @@ unfolding orders_from
 orders_long zero list i = refl
 orders_long (suc k) list i = ap suc (orders_long k list (i + 1))
 
--- the bytes of a whole order are there, and a place for its number
-pub order_inside : (list m : List ℕ) (whole k : ℕ) → whole ≡ min (length m) (length list / 4) → k < whole → (4 * k + 4 ≤ length list) × (k < length m)
-order_inside list m whole k e h = (omega arith, omega arith)
-
 -- ---- where every one is refused, the bytes stay
 refused-append : (ks : List ℕ) (r : ℕ) → all_refused (ks ++ (r ∷ [])) ≡ true → (all_refused ks ≡ true) × (r ≡ 0 → ⊥)
 unfolding all_refused
@@ -112,76 +185,20 @@ pub still_kept : (b c d m : List ℕ) (k r : ℕ) → k < length m → (all_refu
     → all_refused (take (k + 1) (set m k r)) ≡ true
     → d ≡ b
 still_kept b c d m k r room before now e =
-    let parts = refused-append (take k m) r (rw (add-one k, take-set m k r room) at e) in now parts.1 ∙ before parts.0
+    let parts = refused-append (take k m) r (rw (take_more_set m k r room) at e) in now parts.1 ∙ before parts.0
 
--- ---- what four bytes say
-module _ (kind x y last : ℕ) where
-  pub no_order : 3 < kind → order_of kind x y (cut_of last) ≡ Unknown
-  unfolding order_of pick
-  no_order h = rw (ne_eqb kind 0 (λ e. absurd (omega (arith, h, e))), ne_eqb kind 1 (λ e. absurd (omega (arith, h, e))), ne_eqb kind 2 (λ e. absurd (omega (arith, h, e))), ne_eqb kind 3 (λ e. absurd (omega (arith, h, e))))
-
-  module _ (c : Cut) (cut : c ≡ cut_of last) where
-    pub report_order : kind ≡ 0 → order_of kind x y (cut_of last) ≡ ordered (Report (record { 0 = x }) y) c
-    unfolding order_of pick
-    report_order e = rw (e, cut)
-
-    pub receive_order : kind ≡ 1 → order_of kind x y (cut_of last) ≡ ordered (Receive (record { 0 = x }) (record { 0 = y })) c
-    unfolding order_of pick
-    receive_order e = rw (e, cut)
-
-    pub respond_order : kind ≡ 2 → order_of kind x y (cut_of last) ≡ ordered (Respond (record { 0 = x }) (record { 0 = y })) c
-    unfolding order_of pick
-    respond_order e = rw (e, cut)
-
-    pub crash_order : kind ≡ 3 → order_of kind x y (cut_of last) ≡ ordered (Crash (record { 0 = x })) c
-    unfolding order_of pick
-    crash_order e = rw (e, cut)
-
-  -- a step on a system that is not sound
-  pub not_obeyed : (s : System) → sound_system s ≡ false → kind ≤ 3 → refused 1 s ≡ obeyed s (order_of kind x y (cut_of last))
-  unfolding obeyed stepped pick
-  not_obeyed s off low =
-      by_number kind 0 (λ e. rw (report_order (cut_of last) refl e, off))
-      (λ a.
-      by_number kind 1 (λ e. rw (receive_order (cut_of last) refl e, off))
-      (λ b.
-      by_number kind 2 (λ e. rw (respond_order (cut_of last) refl e, off))
-      (λ c. let e : kind ≡ 3 = omega (arith, a, b, c) in rw (crash_order (cut_of last) refl e, off))))
-
--- an order on a sound system is its step
-pub obeys : (b d : List ℕ) (good : Bool) (k : ℕ) (o : Step) (order : Order) → good ≡ sound_system (system_in b) → good ≡ true → order ≡ Do o → Attempts o b k d
-    → Gives (obeyed (system_in b) order) b k d × (good ≡ sound_system (system_in d))
-unfolding obeyed
-obeys b d good k o order tested on says a =
-    let sound = sym tested ∙ on in
-    (record { outcome = (a.steps sound).outcome ∙ sym (ap (obeyed (system_in b)) says); kept = a.gives.kept }, on ∙ sym (a.stays sound))
-
--- bytes that break off inside a step are no step
-no_order_at : (list : List ℕ) (k : ℕ) → length list - k ≤ 3 → order_at list k ≡ Unknown
-unfolding order_at pick
-no_order_at list k h = rw (le-ltb 3 (length list - k) h)
-
-pub breaks_off : (list : List ℕ) (places whole all : ℕ) → whole ≡ min places (length list / 4) → all ≡ min places (order_count list) → whole < all
-    → (Unknown ≡ order_at list (4 * whole)) × (all ≡ whole + 1)
-unfolding order_count pick
-breaks_off list places whole all some total less =
-    let so = go (eqb (length list % 4) 0) total in (sym (no_order_at list (4 * whole) so.0), so.1)
-  where
-    go : (t : Bool) → all ≡ min places (pick t (length list / 4) (length list / 4 + 1)) → (length list - 4 * whole ≤ 3) × (all ≡ whole + 1)
-    go true e = absurd (omega (arith, some, e, less))
-    go false e = (omega (arith, some, e, less), omega (arith, some, e, less))
-
--- all whole orders come first
-pub whole_first : (list : List ℕ) (places whole all : ℕ) → whole ≡ min places (length list / 4) → all ≡ min places (order_count list) → whole ≤ all
-unfolding order_count pick
-whole_first list places whole all some total = go (eqb (length list % 4) 0) total
-  where
-    go : (t : Bool) → all ≡ min places (pick t (length list / 4) (length list / 4 + 1)) → whole ≤ all
-    go true e = omega (arith, some, e)
-    go false e = omega (arith, some, e)
-
--- four bytes of a list, all there
-pub order_here : (list : List ℕ) (k : ℕ) → 4 * k + 4 ≤ length list
-    → order_at list (4 * k) ≡ order_of (get_or list (4 * k) 0) (get_or list (4 * k + 1) 0) (get_or list (4 * k + 2) 0) (cut_of (get_or list (4 * k + 3) 0))
-unfolding order_at pick
-order_here list k h = rw (lt-ltb 3 (length list - 4 * k) (omega arith))
+-- ---- all of them
+pub performed : (list b m : List ℕ) (i r : ℕ) (c k : List ℕ) → r ≡ min (length m) (div_ceil (length list) 4) → i ≡ min (length m) (order_count list)
+    → SoFar list (system_in b) m (min (length m) (order_count list)) i (system_in c) k
+    → (all_refused (take i k) ≡ true → c ≡ b)
+    → Performs list b m r c k
+unfolding orders_in
+performed list b m i r c k count end so_far kept =
+    let done : r ≡ i = count ∙ ap (min (length m)) (counted list) ∙ sym end in
+    let all = all_obeyed list (system_in b) m _ (system_in c) k i end so_far in
+    record {
+      count = done ∙ end ∙ sym (orders_long _ list 0);
+      system = all.0;
+      numbers = rw done all.1;
+      kept = λ no. kept (rw (all_told list (system_in b) m _ (system_in c) k i end so_far) at no);
+    }

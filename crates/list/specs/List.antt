@@ -1,9 +1,11 @@
 -- A list of steps, four bytes each: its kind, what it names, and how it is cut; and what it answers and leaves in the image.
-use Rattle.std.specs.Prelude.{ℕ, zero, suc, ◌+◌, ◌-◌, ◌*◌, ◌/◌, ◌%◌, min, ◌≡◌, Bool, true, ◌&&◌, not, List, [], ◌∷◌, ◌++◌, eqb, ltb, length, get_or, drop}
+use Rattle.std.specs.Prelude.{ℕ, zero, suc, ◌+◌, ◌-◌, ◌*◌, ◌/◌, ◌%◌, min, ◌≡◌, Result, Ok, Err, Bool, true, ◌&&◌, not, List, [], ◌∷◌, ◌++◌, eqb, ltb, length, get_or, drop}
 use Rattle.view.specs.Logic.{pick}
 use Rattle.system.specs.declared.System.{System}
-use Rattle.system.specs.declared.Outcome.{Outcome}
-use Rattle.system.specs.System.{refused}
+use Rattle.system.specs.declared.refusal.Refusal.{Refusal}
+use Rattle.system.specs.declared.refusal.Refusal.TheVariants.{BadLine}
+use Rattle.system.specs.Refusal.{number}
+use Rattle.system.specs.Outcome.{Outcome, refused}
 use Rattle.plan.specs.declared.Action.{Action}
 use Rattle.plan.specs.declared.Action.TheVariants.{Report, Receive, Respond, Crash}
 use Rattle.plan.specs.declared.Cut.{Cut}
@@ -16,13 +18,12 @@ use Rattle.image.specs.Image.{system_in}
 unfoldable pub cut_of : ℕ → Cut
 cut_of k = pick (eqb k 255) Whole (After k)
 
--- what four bytes say: no step, or one
-pub data Order : Type 0 where
-  Unknown : Order
-  Do : Step → Order
+-- what four bytes say: a step, or none
+abbrev pub Order : Type 0
+Order = Result Step Refusal
 
 abbrev pub ordered : Action → Cut → Order
-ordered o c = Do (record { action = o; cut = c })
+ordered o c = Ok (record { action = o; cut = c })
 
 -- a kind that there is not is no step
 unfoldable pub order_of : ℕ → ℕ → ℕ → Cut → Order
@@ -30,12 +31,12 @@ order_of kind x y c =
     pick (eqb kind 0) (ordered (Report (record { 0 = x }) y) c)
     (pick (eqb kind 1) (ordered (Receive (record { 0 = x }) (record { 0 = y })) c)
     (pick (eqb kind 2) (ordered (Respond (record { 0 = x }) (record { 0 = y })) c)
-    (pick (eqb kind 3) (ordered (Crash (record { 0 = x })) c) Unknown)))
+    (pick (eqb kind 3) (ordered (Crash (record { 0 = x })) c) (Err BadLine))))
 
 -- the order that begins at a place: bytes that break off inside a step are no step either
 unfoldable pub order_at : List ℕ → ℕ → Order
 order_at l at =
-    pick (ltb 3 (length l - at)) (order_of (get_or l at 0) (get_or l (at + 1) 0) (get_or l (at + 2) 0) (cut_of (get_or l (at + 3) 0))) Unknown
+    pick (ltb 3 (length l - at)) (order_of (get_or l at 0) (get_or l (at + 1) 0) (get_or l (at + 2) 0) (cut_of (get_or l (at + 3) 0))) (Err BadLine)
 
 -- how many orders a list has, one that breaks off among them
 unfoldable pub order_count : List ℕ → ℕ
@@ -52,8 +53,8 @@ orders_in places l = orders_from (min places (order_count l)) l 0
 
 -- what is no step is refused, with 8
 unfoldable pub obeyed : System → Order → Outcome
-obeyed s Unknown = refused 8 s
-obeyed s (Do o) = stepped s o
+obeyed s (Err r) = refused (number r) s
+obeyed s (Ok o) = stepped s o
 
 -- each on the system that the one before left: the numbers answered, and the system in the end
 unfoldable pub numbers_of : System → List Order → List ℕ

@@ -1,21 +1,24 @@
 // A list of steps, in bytes, on one image.
 #![tactic(auto)]
 
-ghost use Rattle.std.specs.Prelude.{min, ◌≡◌};
+ghost use Rattle.std.specs.Prelude.{◌≡◌, ◌≤◌, length, Ok};
+ghost use Rattle.system.specs.Refusal.{answer_number};
 ghost use Rattle.sound.specs.Sound.{sound_system};
+ghost use Rattle.plan.specs.declared.Action.{Action};
 ghost use Rattle.image.specs.Image.{system_in};
 ghost use Rattle.alternatives.specs.Gives.{Gives};
-ghost use Rattle.list.specs.List.{cut_of, order_of, order_count, obeyed, Performs};
+ghost use Rattle.list.specs.List.{cut_of, order_of, order_at, obeyed, Performs};
 
-use engine::{do_crash, do_receive, do_report, do_respond};
-use plan::Cut;
-use system::refusal::{BAD_LINE, UNSOUND};
+use engine::attempt;
+use plan::{Action, Cut, Step};
+use system::refusal::{Refusal, number_of};
 use view::ProcessId;
 
 // The fourth byte of an order whose step is whole.
 pub const WHOLE: u8 = 255;
 
 // What the fourth byte says: any other is the number of messages after which the step is cut.
+#[tactic(auto, unfolding(crate::specs::List::cut_of, view::specs::Logic::pick))]
 fn cut_of(byte: u8) -> Cut
     ensures { result ≡ cut_of byte }
 {
@@ -26,44 +29,42 @@ fn cut_of(byte: u8) -> Cut
     }
 }
 
-// What four bytes of a list do to an image whose system is sound, or is not.
-fn obey(image: &mut [u8], good: bool, kind: u8, x: u8, y: u8, last: u8) -> u8
-    requires { good ≡ sound_system (system_in image.old) }
-    ensures { (Gives (obeyed (system_in image.old) (order_of kind x y (cut_of last))) image.old result image.new) × (good ≡ sound_system (system_in image.new)) }
+// What the four bytes of an order say.
+#[tactic(auto, unfolding(crate::specs::List::order_of, view::specs::Logic::pick))]
+fn step_of(kind: u8, x: u8, y: u8, last: u8) -> Result<Step, Refusal>
+    ensures { result ≡ order_of kind x y (cut_of last) }
 {
-    if 3 < kind {
-        BAD_LINE
-    } else if good {
-        if kind == 0 {
-            do_report(image, ProcessId(x), y, cut_of(last))
-        } else if kind == 1 {
-            do_receive(image, ProcessId(x), ProcessId(y), cut_of(last))
-        } else if kind == 2 {
-            do_respond(image, ProcessId(x), ProcessId(y), cut_of(last))
-        } else {
-            do_crash(image, ProcessId(x), cut_of(last))
-        }
-    } else {
-        UNSOUND
-    }
+    let action = match kind {
+        0 => Action::Report(ProcessId(x), y),
+        1 => Action::Receive(ProcessId(x), ProcessId(y)),
+        2 => Action::Respond(ProcessId(x), ProcessId(y)),
+        3 => Action::Crash(ProcessId(x)),
+        _ => return Err(Refusal::BadLine),
+    };
+    Ok(Step {
+        action,
+        cut: cut_of(last),
+    })
 }
 
-// How many orders a list has, one that breaks off among them.
-fn order_count(list: &[u8]) -> usize
-    ensures { result ≡ order_count list.now }
+// What an order does to an image whose system is sound, or is not.
+#[tactic(auto, using(crate::proofs::Lists::broken_off, crate::proofs::Lists::no_order, crate::proofs::Lists::obeys, crate::proofs::Lists::not_obeyed))]
+fn obey(image: &mut [u8], good: bool, order: &[u8]) -> Result<(), Refusal>
+    requires short { length order.now ≤ 4 }
+    requires tested { good ≡ sound_system (system_in image.old) }
+    ensures gives { Gives (obeyed (system_in image.old) (order_at order.now 0)) image.old (answer_number result) image.new }
+    ensures stays { good ≡ sound_system (system_in image.new) }
 {
-    let whole = list.len() / 4;
-    if list.len() % 4 == 0 {
-        whole
+    // Bytes that break off inside a step are no step.
+    let [kind, x, y, last] = order else {
+        return Err(Refusal::BadLine);
+    };
+    let step = step_of(*kind, *x, *y, *last)?;
+    if good {
+        attempt(image, step)
     } else {
-        whole + 1
+        Err(Refusal::Unsound)
     }
-}
-
-fn lesser(a: usize, b: usize) -> usize
-    ensures { result ≡ min a b }
-{
-    if a < b { a } else { b }
 }
 
 // A list of steps, four bytes each: kind 0 is a report (process, view), 1 a receive (from, at), 2 a
@@ -74,24 +75,14 @@ pub fn perform_all(image: &mut [u8], list: &[u8], numbers: &mut [u8]) -> usize
     ensures { Performs list.now image.old numbers.old result image.new numbers.new }
 {
     let good = integrity::sound(image);
-    let total = lesser(numbers.len(), order_count(list));
-    let whole = lesser(numbers.len(), list.len() / 4);
-    let mut count = 0;
-    while count < whole {
-        let at = 4 * count;
-        numbers[count] = obey(
-            image,
-            good,
-            list[at],
-            list[at + 1],
-            list[at + 2],
-            list[at + 3],
-        );
-        count += 1;
-    }
-    // Bytes that break off inside a step are no step.
-    if count < total {
-        numbers[count] = BAD_LINE;
+    let total = numbers.len().min(list.len().div_ceil(4));
+    let mut orders = list.chunks(4);
+    // No `zip`: after one over `iter_mut` a proof knows nothing of what was written.
+    for number in numbers.iter_mut() {
+        let Some(order) = orders.next() else {
+            break;
+        };
+        *number = number_of(obey(image, good, order));
     }
     total
 }

@@ -1,102 +1,130 @@
--- How the parts of a settling run are put together: what each does to an image, and that a round that does nothing finds nothing to do.
-use Prim.Native.Nat.{ℕ, zero, suc, ◌+◌, ◌-◌, ◌≤◌, ◌<◌}
+-- How the parts of a settling run are put together.
+use Prim.Native.Nat.{ℕ, zero, suc, ◌+◌, ◌-◌, ◌≤◌, ◌<◌, max}
 use mathlib.Core.Path.{◌≡◌, refl, sym, ◌∙◌, ap, subst}
-use mathlib.Core.Bool.{Bool, true, false, ◌&&◌, not}
+use mathlib.Core.Bool.{Bool, true, false, ◌&&◌, ◌||◌, not}
 use mathlib.Core.List.{List}
 use native.Mathlib.Omega.{arith}
+use native.Mathlib.Numerals.{add-one}
 use borrow.Author.Tests.{eqb-true, eq-eqb, ne_eqb, lt-ltb, le-ltb}
 use lib.Dec.{eqb}
 use lib.ListN.{length}
+use Rattle.std.specs.Prelude.{Ok, Err}
+use Rattle.std.specs.Borrow.{MutBor}
 use Rattle.view.specs.Logic.{pick, each_up_to}
-use Rattle.view.proofs.Laws.{each_more, true_is_not_false}
+use Rattle.view.proofs.Laws.{each_next, all_done, true_is_not_false}
 use Rattle.tallies.specs.declared.Tally.{Tally}
-use Rattle.tallies.specs.Tally.{no_tally, plus, capped}
-use Rattle.system.specs.declared.Outcome.{Outcome}
+use Rattle.tallies.specs.Tally.{plus, capped}
+use Rattle.system.specs.Outcome.{Outcome}
+use Rattle.system.specs.declared.refusal.Refusal.TheVariants.{Unsound}
 use Rattle.sound.specs.Sound.{sound_system}
 use Rattle.plan.specs.declared.Action.{Action}
 use Rattle.plan.specs.Cut.{whole}
+use Rattle.step.specs.Step.{stepped}
 use Rattle.step.specs.Counts.{step_tally}
 use Rattle.image.specs.Image.{image_width, decoded, no_system, system_in}
 use Rattle.engine.specs.Engine.{Attempts}
 use Rattle.engine.proofs.Given.{no_system_lem}
+use Rattle.settle.specs.declared.Run.{Run}
 use Rattle.settle.specs.declared.Ending.{Ending}
-use Rattle.settle.specs.declared.Settled.{Settled}
-use Rattle.settle.specs.declared.StepsDone.{StepsDone}
-use Rattle.settle.specs.declared.Ending.TheVariants.{Held}
-use Rattle.settle.specs.Settle.{Progress, passing, tried, round_done, unless_idle, rounds_done, ending_of, ended_with, settled_from, settled, settled_tally, Settles}
-use Rattle.settle.specs.Advances.{progress_in, nothing_done, with_step, Advances}
+use Rattle.settle.specs.Settle.{Progress, passing, tried, round_done, unless_idle, rounds_done, ending_of, ended_with, outset, settled_from, settled, settled_tally, settled_as, tally_in, Settles}
+use Rattle.settle.specs.Advances.{progress_of, Advances, Begins}
 
--- ---- on an image
-pub no_advance : (budget : ℕ) (s : StepsDone) (b : List ℕ) → sound_system (system_in b) ≡ true → Advances budget (λ x. x) s b s b
-no_advance budget s b sound =
-    record { reached = refl; stays = sound; rises = omega arith; inside = λ h. h; kept = λ e. refl }
+-- ---- one after the other
+pub no_advance : (x : Run) → Advances (λ p. p) x x
+no_advance x =
+    record { reached = refl; same_bytes = refl; same_budget = refl; same_size = refl; rises = omega arith; inside = omega arith; kept = λ e. refl }
 
-pub advance_then : (budget : ℕ) (f g : Progress → Progress) (s m r : StepsDone) (b c d : List ℕ) → Advances budget f s b m c → Advances budget g m c r d
-    → Advances budget (λ x. g (f x)) s b r d
-advance_then budget f g s m r b c d one two =
+pub advance_then : (f g : Progress → Progress) (x y z : Run) → Advances f x y → Advances g y z → Advances (λ p. g (f p)) x z
+advance_then f g x y z one two =
     record {
       reached = two.reached ∙ ap g one.reached;
-      stays = two.stays;
+      same_bytes = two.same_bytes ∙ one.same_bytes;
+      same_budget = two.same_budget ∙ one.same_budget;
+      same_size = two.same_size ∙ one.same_size;
       rises = omega (arith, one.rises, two.rises);
-      inside = λ h. two.inside (one.inside h);
+      inside = omega (arith, one.inside, two.inside, one.same_budget);
       kept = λ e. two.kept (omega (arith, one.rises, two.rises, e)) ∙ one.kept (omega (arith, one.rises, two.rises, e));
     }
 
--- one turn more of a loop
-pub advance_more : (budget : ℕ) (f : ℕ → Progress → Progress) (k : ℕ) (s m r : StepsDone) (b c d : List ℕ) → Advances budget (each_up_to k f) s b m c
-    → Advances budget (f (k + 1)) m c r d → Advances budget (each_up_to (k + 1) f) s b r d
-advance_more budget f k s m r b c d one two =
-    let both = advance_then budget (each_up_to k f) (f (k + 1)) s m r b c d one two in
+-- the progress, written otherwise
+pub advance_as : (f g : Progress → Progress) (x y : Run) → f (progress_of x) ≡ g (progress_of x) → Advances f x y → Advances g x y
+advance_as f g x y same one =
     record {
-      reached = both.reached ∙ sym (each_more k f (progress_in b s));
-      stays = both.stays;
-      rises = both.rises;
-      inside = both.inside;
-      kept = both.kept;
+      reached = one.reached ∙ same;
+      same_bytes = one.same_bytes;
+      same_budget = one.same_budget;
+      same_size = one.same_size;
+      rises = one.rises;
+      inside = one.inside;
+      kept = one.kept;
     }
 
+-- what goes on from y, told by the budget and the size that it began with
+pub as_begun : (f : ℕ → ℕ → Progress → Progress) (x y z : Run) → y.budget ≡ x.budget → y.n ≡ x.n → Advances (f y.budget y.n) y z → Advances (f x.budget x.n) y z
+as_begun f x y z budget size one =
+    subst (λ (k : ℕ). Advances (f k x.n) y z) budget (subst (λ (n : ℕ). Advances (f y.budget n) y z) size one)
+
+-- one turn more of a loop
+pub advance_next : (q : ℕ) (f : ℕ → Progress → Progress) (x y z : Run) → 1 ≤ q → Advances (each_up_to (q - 1) f) x y → Advances (f q) y z
+    → Advances (each_up_to (q + 1 - 1) f) x z
+advance_next q f x y z low one two =
+    advance_as _ _ x z (each_next q f (progress_of x) low) (advance_then (each_up_to (q - 1) f) (f q) x y z one two)
+
+-- the last turn of a loop, and after it
+pub advance_last : (q n : ℕ) (f : ℕ → Progress → Progress) (x y z : Run) → 1 ≤ q → q ≡ n → Advances (each_up_to (q - 1) f) x y → Advances (f q) y z
+    → Advances (each_up_to n f) x z
+advance_last q n f x y z low end one two =
+    let last : q + 1 - 1 ≡ n = omega arith in
+    subst (λ (k : ℕ). Advances (each_up_to k f) x z) last (advance_next q f x y z low one two)
+
+pub advance_done : (q n : ℕ) (f : ℕ → Progress → Progress) (x y : Run) → q ≤ n + 1 → n < q → Advances (each_up_to (q - 1) f) x y → Advances (each_up_to n f) x y
+advance_done q n f x y high past one = subst (λ (k : ℕ). Advances (each_up_to k f) x y) (all_done q n high past) one
+
 -- ---- one take or answer
-pub spent : (budget : ℕ) (o : Action) (s : StepsDone) (b : List ℕ) → sound_system (system_in b) ≡ true → budget ≤ s.steps → Advances budget (tried budget o) s b s b
+pub spent : (o : Action) (x : Run) → x.budget ≤ x.steps → Advances (tried x.budget o) x x
 unfolding tried pick
-spent budget o s b sound over =
+spent o x over =
     record {
-      reached = rw (le-ltb s.steps budget over);
-      stays = sound;
+      reached = rw (le-ltb x.steps x.budget over);
+      same_bytes = refl;
+      same_budget = refl;
+      same_size = refl;
       rises = omega arith;
-      inside = λ h. h;
+      inside = omega arith;
       kept = λ e. refl;
     }
 
-module _ (budget : ℕ) (o : Action) (s : StepsDone) (b : List ℕ) (sound : sound_system (system_in b) ≡ true) (below : s.steps < budget) (k : ℕ) (c : List ℕ)
-    (a : Attempts (whole o) b k c) where
-  pub one-refused : (k ≡ 0 → ⊥) → Advances budget (tried budget o) s b s c
+module _ (o : Action) (x y : Run) (below : x.steps < x.budget) (k : ℕ) (a : Attempts (whole o) x.image.now k y.image.now)
+    (bytes : y.image.ghost_name ≡ x.image.ghost_name) (budget : y.budget ≡ x.budget) (size : y.n ≡ x.n) where
+  told : k ≡ (stepped (system_in x.image.now) (whole o)).refusal
+  told = ap (λ (u : Outcome). u.refusal) (a.steps x.sound).outcome
+
+  pub one_refused : (k ≡ 0 → ⊥) → y.steps ≡ x.steps → y.tally ≡ x.tally → Advances (tried x.budget o) x y
   unfolding tried passing pick
-  one-refused some =
+  one_refused some steps tally =
       record {
-        reached =
-            rw (a.gives.kept some, lt-ltb s.steps budget below, ← ap (λ (x : Outcome). x.refusal) (a.steps sound).outcome, ne_eqb k 0 some);
-        stays = a.stays sound;
-        rises = omega arith;
-        inside = λ h. h;
+        reached = rw (a.gives.kept some, steps, tally, lt-ltb x.steps x.budget below, ← told, ne_eqb k 0 some) refl;
+        same_bytes = bytes;
+        same_budget = budget;
+        same_size = size;
+        rises = omega (arith, steps);
+        inside = omega (arith, steps);
         kept = λ e. a.gives.kept some;
       }
 
-  done : k ≡ 0 → Advances budget (tried budget o) s b (with_step s (step_tally (system_in b) (whole o))) c
+  pub one_done : k ≡ 0 → y.steps ≡ x.steps + 1 → y.tally ≡ capped (plus x.tally (step_tally (system_in x.image.now) (whole o))) → Advances (tried x.budget o) x y
   unfolding tried passing pick
-  done none =
+  one_done none steps tally =
       record {
         reached =
-            rw (lt-ltb s.steps budget below, ← ap (λ (x : Outcome). x.refusal) (a.steps sound).outcome, ← ap (λ (x : Outcome). x.system) (a.steps sound).outcome, eq-eqb k 0 none)
-            (ap (λ (j : ℕ). progress_in c (record { steps = j; tally = capped (plus s.tally (step_tally (system_in b) (whole o))) })) (omega arith));
-        stays = a.stays sound;
-        rises = omega arith;
-        inside = λ h. omega arith;
-        kept = λ e. absurd (omega (arith, e));
+            rw (steps, tally, lt-ltb x.steps x.budget below, ← told, ← ap (λ (u : Outcome). u.system) (a.steps x.sound).outcome, eq-eqb k 0 none, add-one) refl;
+        same_bytes = bytes;
+        same_budget = budget;
+        same_size = size;
+        rises = omega (arith, steps);
+        inside = omega (arith, steps);
+        kept = λ e. absurd (omega (arith, e, steps));
       }
-
-  pub one-done : k ≡ 0 → (t : Tally) → t ≡ step_tally (system_in b) (whole o) → (y : StepsDone) → y ≡ with_step s t → Advances budget (tried budget o) s b y c
-  one-done none t counts y is =
-      subst (λ (z : StepsDone). Advances budget (tried budget o) s b z c) (sym is) (rw counts (done none))
 
 -- ---- at rest
 -- where nothing is recorded no answer could be given
@@ -105,56 +133,11 @@ no_answer true true = refl
 no_answer true false = refl
 no_answer false live = refl
 
--- ---- rounds
--- so far on the way from bytes b to the end of the rounds: bytes c after some steps, with rounds enough ahead
-pub record Ahead (budget n : ℕ) (b : List ℕ) (x : StepsDone) (c : List ℕ) : Type 0 where
-  pub left : ℕ
-  pub enough : budget < left + x.steps
-  pub within : x.steps ≤ budget
-  pub goal : rounds_done (suc budget) budget n (progress_in b nothing_done) ≡ rounds_done left budget n (progress_in c x)
-  pub stays : sound_system (system_in c) ≡ true
-  pub kept : x.steps ≡ 0 → c ≡ b
-
-pub at_start : (budget n : ℕ) (b : List ℕ) → sound_system (system_in b) ≡ true → Ahead budget n b nothing_done b
-at_start budget n b sound =
-    record { left = suc budget; enough = omega arith; within = omega arith; goal = refl; stays = sound; kept = λ e. refl }
-
--- one round more of at least one
-unrolled : (k budget n : ℕ) (x : Progress) → 0 < k
-    → (j : ℕ) × (k ≡ suc j) × (rounds_done k budget n x ≡ unless_idle x.steps (rounds_done j budget n) (round_done budget n x))
-unfolding rounds_done
-unrolled zero budget n x h = absurd (omega arith)
-unrolled (suc j) budget n x h = (j, refl, refl)
-
-module _ (budget n : ℕ) (b : List ℕ) (s : StepsDone) (c : List ℕ) (r : StepsDone) (d : List ℕ) (far : Ahead budget n b s c) (round : Advances budget (round_done budget n) s c r d) where
-  pub round_idle : r.steps ≡ s.steps → Advances budget (rounds_done (suc budget) budget n) nothing_done b r d
-  unfolding unless_idle pick
-  round_idle e =
-      let u = unrolled far.left budget n (progress_in c s) (omega (arith, far.enough, far.within)) in
-      record {
-        reached = sym (far.goal ∙ u.2 ∙ rw (← round.reached, eq-eqb r.steps s.steps e));
-        stays = round.stays;
-        rises = omega arith;
-        inside = λ h. round.inside far.within;
-        kept = λ none. round.kept e ∙ far.kept (sym e ∙ none);
-      }
-
-  pub round_more : (r.steps ≡ s.steps → ⊥) → Ahead budget n b r d
-  unfolding unless_idle pick
-  round_more some =
-      let u = unrolled far.left budget n (progress_in c s) (omega (arith, far.enough, far.within)) in
-      record {
-        left = u.0;
-        enough = omega (arith, u.1, far.enough, round.rises, some);
-        within = round.inside far.within;
-        goal = far.goal ∙ u.2 ∙ rw (← round.reached, ne_eqb r.steps s.steps some);
-        stays = round.stays;
-        kept = λ none. absurd (some (omega (arith, round.rises, none)));
-      }
-
-  -- the budget that is left falls
-  pub round_less : (r.steps ≡ s.steps → ⊥) → budget - r.steps < budget - s.steps
-  round_less some = omega (arith, round.rises, some, far.within, round.inside far.within)
+-- a process that has stopped answers nothing, and one that has not answers only a record of its view
+pub no_reply : (idle crashed same : Bool) → (idle && (crashed || not same)) ≡ (idle && not (not crashed && same))
+no_reply true true same = refl
+no_reply true false same = refl
+no_reply false crashed same = refl
 
 -- ---- a copy
 -- bytes that hold a sound system have the length of an image
@@ -166,28 +149,113 @@ sound_long b sound = go (eqb (length b) image_width) refl sound
     go true e s = eqb-true (length b) image_width e
     go false e s = true_is_not_false (sym s ∙ no_system_lem)
 
--- ---- the whole run
-ended : (budget : ℕ) (x : StepsDone) (c : List ℕ) (e : Ending) → e ≡ ending_of budget (progress_in c x)
-    → ◌≡◌ {A = Settled} (record { refusal = 0; steps = x.steps; ending = e; system = system_in c }) (ended_with budget (progress_in c x))
-unfolding ended_with
-ended budget x c e is = rw is
+-- ---- rounds
+-- so far on the way from run x to the end of the rounds: run y, with rounds enough ahead
+pub record Ahead (x y : Run) : Type 0 where
+  pub left : ℕ
+  pub some : 0 < left
+  pub enough : x.budget < left + y.steps
+  pub goal : rounds_done (suc x.budget) x.budget x.n (progress_of x) ≡ rounds_done left x.budget x.n (progress_of y)
+  pub bytes : y.image.ghost_name ≡ x.image.ghost_name
+  pub budget : y.budget ≡ x.budget
+  pub size : y.n ≡ x.n
+  pub rises : x.steps ≤ y.steps
+  pub inside : y.steps ≤ max x.steps x.budget
+  pub kept : y.steps ≡ x.steps → y.image.now ≡ x.image.now
 
-pub run_settles : (budget n : ℕ) (x : StepsDone) (b c : List ℕ) (e : Ending) → sound_system (system_in b) ≡ true → n ≡ (system_in b).n
-    → Advances budget (rounds_done (suc budget) budget n) nothing_done b x c → e ≡ ending_of budget (progress_in c x)
-    → Settles budget b (record { refusal = 0; steps = x.steps; ending = e; tally = x.tally }) c
-unfolding settled settled_tally pick
-run_settles budget n x b c e sound size run ends =
-    let reached : progress_in c x ≡ settled_from budget (system_in b) =
-    run.reached ∙ ap (λ (k : ℕ). rounds_done (suc budget) budget k (progress_in b nothing_done)) size in
+pub at_start : (x : Run) → Ahead x x
+at_start x =
     record {
-      outcome = rw (sound, ← reached) (ended budget x c e ends);
-      tally = rw (sound, ← reached);
-      kept = run.kept;
-      stays = λ h. run.stays;
+      left = suc x.budget;
+      some = omega arith;
+      enough = omega arith;
+      goal = refl;
+      bytes = refl;
+      budget = refl;
+      size = refl;
+      rises = omega arith;
+      inside = omega arith;
+      kept = λ e. refl;
     }
 
-pub unsound_settles : (budget : ℕ) (b : List ℕ) (t : Tally) → t ≡ no_tally → sound_system (system_in b) ≡ false
-    → Settles budget b (record { refusal = 1; steps = 0; ending = Held; tally = t }) b
-unfolding settled settled_tally pick
-unsound_settles budget b t none off =
-    record { outcome = rw off; tally = rw off none; kept = λ e. refl; stays = λ on. true_is_not_false (sym on ∙ off) }
+-- one round more of at least one
+unrolled : (k budget n : ℕ) (x : Progress) → 0 < k
+    → (j : ℕ) × (k ≡ suc j) × (rounds_done k budget n x ≡ unless_idle x.steps (rounds_done j budget n) (round_done budget n x))
+unfolding rounds_done
+unrolled zero budget n x h = absurd (omega arith)
+unrolled (suc j) budget n x h = (j, refl, refl)
+
+module _ (x y z : Run) (far : Ahead x y) (given : Advances (round_done y.budget y.n) y z) where
+  round : Advances (round_done x.budget x.n) y z
+  round = as_begun (λ budget n. round_done budget n) x y z far.budget far.size given
+
+  pub round_idle : z.steps ≡ y.steps → Advances (rounds_done (suc x.budget) x.budget x.n) x z
+  unfolding unless_idle pick
+  round_idle e =
+      let u = unrolled far.left x.budget x.n (progress_of y) far.some in
+      record {
+        reached = sym (far.goal ∙ u.2 ∙ rw (← round.reached, eq-eqb z.steps y.steps e) refl);
+        same_bytes = round.same_bytes ∙ far.bytes;
+        same_budget = round.same_budget ∙ far.budget;
+        same_size = round.same_size ∙ far.size;
+        rises = omega (arith, far.rises, round.rises);
+        inside = omega (arith, far.inside, e);
+        kept = λ none. round.kept e ∙ far.kept (sym e ∙ none);
+      }
+
+  pub round_more : (z.steps ≡ y.steps → ⊥) → Ahead x z
+  unfolding unless_idle pick
+  round_more some =
+      let u = unrolled far.left x.budget x.n (progress_of y) far.some in
+      record {
+        left = u.0;
+        some = omega (arith, u.1, far.enough, round.rises, round.inside, far.budget, some);
+        enough = omega (arith, u.1, far.enough, round.rises, some);
+        goal = far.goal ∙ u.2 ∙ rw (← round.reached, ne_eqb z.steps y.steps some) refl;
+        bytes = round.same_bytes ∙ far.bytes;
+        budget = round.same_budget ∙ far.budget;
+        size = round.same_size ∙ far.size;
+        rises = omega (arith, far.rises, round.rises);
+        inside = omega (arith, far.inside, round.inside, round.same_budget, far.budget);
+        kept = λ none. absurd (some (omega (arith, far.rises, round.rises, none)));
+      }
+
+  -- the budget that is left falls
+  pub round_less : (z.steps ≡ y.steps → ⊥) → z.budget - z.steps < y.budget - y.steps
+  round_less some = omega (arith, given.rises, some, given.inside, given.same_budget)
+
+-- ---- the whole run
+at_outset : (budget : ℕ) (image : MutBor (List ℕ)) (x : Run) → Begins budget image x → progress_of x ≡ outset (system_in x.image.now)
+at_outset budget image x new =
+    ap (λ (k : ℕ). record { system = system_in x.image.now; steps = k; tally = x.tally }) new.steps
+    ∙ ap (λ (t : Tally). record { system = system_in x.image.now; steps = 0; tally = t }) new.tally
+
+run_reached : (budget : ℕ) (image : MutBor (List ℕ)) (x y : Run) → Begins budget image x → Advances (rounds_done (suc x.budget) x.budget x.n) x y
+    → progress_of y ≡ settled_from budget (system_in x.image.now)
+run_reached budget image x y new run =
+    run.reached
+    ∙ ap (rounds_done (suc x.budget) x.budget x.n) (at_outset budget image x new)
+    ∙ ap (λ (k : ℕ). rounds_done (suc k) k x.n (outset (system_in x.image.now))) new.budget_is
+    ∙ ap (λ (n : ℕ). rounds_done (suc budget) budget n (outset (system_in x.image.now))) (new.size ∙ ap (λ (l : List ℕ). (system_in l).n) (sym new.bytes))
+
+pub run_settles : (budget : ℕ) (image : MutBor (List ℕ)) (x y : Run) (e : Ending) → Begins budget image x
+    → Advances (rounds_done (suc x.budget) x.budget x.n) x y → e ≡ ending_of y.budget (progress_of y)
+    → (d : List ℕ) → d ≡ y.image.now
+    → Settles budget image.now (Ok (record { steps = y.steps; ending = e; tally = y.tally })) d
+unfolding settled settled_tally settled_as tally_in ended_with pick
+run_settles budget image x y e new run ends d left =
+    let reached = run_reached budget image x y new run in
+    let ended : e ≡ ending_of budget (progress_of y) = ends ∙ ap (λ (k : ℕ). ending_of k (progress_of y)) (run.same_budget ∙ new.budget_is) in
+    subst (λ (l : List ℕ). Settles budget image.now (Ok (record { steps = y.steps; ending = e; tally = y.tally })) l) (sym left)
+    (subst (λ (l : List ℕ). Settles budget l (Ok (record { steps = y.steps; ending = e; tally = y.tally })) y.image.now) new.bytes
+    (record {
+      outcome = rw (x.sound, ← reached, ended) refl;
+      tally = rw (x.sound, ← reached) refl;
+      kept = λ none. run.kept (none ∙ sym new.steps);
+      stays = λ h. y.sound;
+    }))
+
+pub unsound_settles : (budget : ℕ) (b : List ℕ) → sound_system (system_in b) ≡ false → Settles budget b (Err Unsound) b
+unfolding settled settled_tally settled_as tally_in pick
+unsound_settles budget b off =
+    record { outcome = rw off refl; tally = rw off refl; kept = λ e. refl; stays = λ on. true_is_not_false (sym on ∙ off) }

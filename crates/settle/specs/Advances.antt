@@ -1,29 +1,31 @@
--- What the parts of a settling run do to an image: promised by private functions alone.
-use Rattle.std.specs.Prelude.{ℕ, ◌+◌, ◌≤◌, ◌≡◌, true, List}
-use Rattle.sound.specs.Sound.{sound_system}
+-- What the parts of a settling run do: promised by private functions alone.
+use Rattle.std.specs.Prelude.{ℕ, ◌≤◌, ◌≡◌, max, List}
+use Rattle.std.specs.Borrow.{MutBor}
 use Rattle.image.specs.Image.{system_in}
-use Rattle.tallies.specs.declared.Tally.{Tally}
-use Rattle.tallies.specs.Tally.{no_tally, plus, capped}
-use Rattle.settle.specs.declared.StepsDone.{StepsDone}
+use Rattle.settle.specs.declared.Run.{Run}
+use Rattle.tallies.specs.Tally.{no_tally}
 use Rattle.settle.specs.Settle.{Progress}
 
--- the system that bytes hold, after some steps
-abbrev pub progress_in : List ℕ → StepsDone → Progress
-progress_in b x = record { system = system_in b; steps = x.steps; tally = x.tally }
+-- how far a run is
+abbrev pub progress_of : Run → Progress
+progress_of x = record { system = system_in x.image.now; steps = x.steps; tally = x.tally }
 
--- no step yet
-abbrev pub nothing_done : StepsDone
-nothing_done = record { steps = 0; tally = no_tally }
-
--- one step more, and what it counts
-abbrev pub with_step : StepsDone → Tally → StepsDone
-with_step x t = record { steps = x.steps + 1; tally = capped (plus x.tally t) }
-
--- bytes b after steps x become bytes c after steps y: the progress that f makes. The number of steps never falls, nor passes the budget, and
--- where none is done every byte is as it was
-pub record Advances (budget : ℕ) (f : Progress → Progress) (x : StepsDone) (b : List ℕ) (y : StepsDone) (c : List ℕ) : Type 0 where
-  pub reached : progress_in c y ≡ f (progress_in b x)
-  pub stays : sound_system (system_in c) ≡ true
+-- Run x goes on to run y, on the same bytes: the progress that f makes. The number of steps never falls, nor grows past the budget, and
+-- where none is done every byte is as it was.
+pub record Advances (f : Progress → Progress) (x y : Run) : Type 0 where
+  pub reached : progress_of y ≡ f (progress_of x)
+  pub same_bytes : y.image.ghost_name ≡ x.image.ghost_name
+  pub same_budget : y.budget ≡ x.budget
+  pub same_size : y.n ≡ x.n
   pub rises : x.steps ≤ y.steps
-  pub inside : x.steps ≤ budget → y.steps ≤ budget
-  pub kept : y.steps ≡ x.steps → c ≡ b
+  pub inside : y.steps ≤ max x.steps x.budget
+  pub kept : y.steps ≡ x.steps → y.image.now ≡ x.image.now
+
+-- run x is before its first step, on these bytes
+pub record Begins (budget : ℕ) (image : MutBor (List ℕ)) (x : Run) : Type 0 where
+  pub same_bytes : x.image.ghost_name ≡ image.ghost_name
+  pub bytes : x.image.now ≡ image.now
+  pub size : x.n ≡ (system_in image.now).n
+  pub budget_is : x.budget ≡ budget
+  pub steps : x.steps ≡ 0
+  pub tally : x.tally ≡ no_tally

@@ -1,13 +1,16 @@
 -- S-4. "Add a settling run: in rounds, one take tried on every line by rising receiver then sender, then one answer tried for every unit
 -- and addressee, rising in that order, refused ones passed over, until a whole round does nothing. It returns the table, the steps done,
 -- and at rest, held up or budget."
-use Rattle.std.specs.Prelude.{ℕ, zero, suc, ◌≡◌, Bool, true, ◌&&◌, ◌||◌, not, List, eqb, ltb}
+use Rattle.std.specs.Prelude.{ℕ, zero, suc, ◌≡◌, Bool, true, ◌&&◌, ◌||◌, not, List, Result, Ok, Err, eqb, ltb}
 use Rattle.view.specs.declared.ProcessId.{ProcessId}
 use Rattle.view.specs.Logic.{pick, unless, all_up_to, each_up_to}
 use Rattle.tallies.specs.declared.Tally.{Tally}
 use Rattle.tallies.specs.Tally.{no_tally, plus, capped}
 use Rattle.system.specs.declared.System.{System}
-use Rattle.system.specs.declared.Outcome.{Outcome}
+use Rattle.system.specs.declared.Refused.{Refused}
+use Rattle.system.specs.declared.refusal.Refusal.{Refusal}
+use Rattle.system.specs.Refusal.{number}
+use Rattle.system.specs.Outcome.{Outcome}
 use Rattle.sound.specs.Sound.{sound_system}
 use Rattle.plan.specs.declared.Action.{Action}
 use Rattle.plan.specs.declared.Action.TheVariants.{Receive, Respond}
@@ -16,12 +19,12 @@ use Rattle.step.specs.Step.{stepped}
 use Rattle.step.specs.Counts.{step_tally}
 use Rattle.step.specs.Rest.{at_rest}
 use Rattle.image.specs.Image.{system_in}
+use Rattle.settle.specs.declared.Settling.{Settling}
+use Rattle.settle.specs.declared.SettledSystem.{SettledSystem}
 use Rattle.settle.specs.declared.Half.{Half}
 use Rattle.settle.specs.declared.Half.TheVariants.{Takes, Answers}
 use Rattle.settle.specs.declared.Ending.{Ending}
 use Rattle.settle.specs.declared.Ending.TheVariants.{Rest, Held, Budget}
-use Rattle.settle.specs.declared.Settling.{Settling}
-use Rattle.settle.specs.declared.Settled.{Settled}
 
 -- a system on its way to rest, the steps done so far, and what they count (S-7)
 pub record Progress : Type 0 where
@@ -87,6 +90,13 @@ nothing_to_do s = none_done s.n s Takes && none_done s.n s Answers
 unfoldable pub ending_of : ℕ → Progress → Ending
 ending_of budget x = unless (ltb x.steps budget || nothing_to_do x.system) Budget (pick (at_rest x.system) Rest Held)
 
+-- what a run answers, and the system after it
+pub record Settled : Type 0 where
+  pub refusal : ℕ
+  pub steps : ℕ
+  pub ending : Ending
+  pub system : System
+
 unfoldable pub ended_with : ℕ → Progress → Settled
 ended_with budget x = record { refusal = 0; steps = x.steps; ending = ending_of budget x; system = x.system }
 
@@ -108,10 +118,26 @@ settled budget s =
 unfoldable pub settled_tally : ℕ → System → Tally
 settled_tally budget s = unless (sound_system s) no_tally (settled_from budget s).tally
 
+-- ---- what is promised of the program
+-- what a run answers, and the system after it
+unfoldable pub settled_as : Result Settling Refusal → System → Settled
+settled_as (Ok r) s = record { refusal = 0; steps = r.steps; ending = r.ending; system = s }
+settled_as (Err k) s = record { refusal = number k; steps = 0; ending = Held; system = s }
+
+-- what it counts
+unfoldable pub tally_in : Result Settling Refusal → Tally
+tally_in (Ok r) = r.tally
+tally_in (Err k) = no_tally
+
 -- bytes b become bytes c and r is answered: that is the run with its budget; where no step was done every byte is as it was, and a sound
 -- system stays one
-pub record Settles (budget : ℕ) (b : List ℕ) (r : Settling) (c : List ℕ) : Type 0 where
-  pub outcome : record { refusal = r.refusal; steps = r.steps; ending = r.ending; system = system_in c } ≡ settled budget (system_in b)
-  pub tally : r.tally ≡ settled_tally budget (system_in b)
-  pub kept : r.steps ≡ 0 → c ≡ b
+pub record Settles (budget : ℕ) (b : List ℕ) (r : Result Settling Refusal) (c : List ℕ) : Type 0 where
+  pub outcome : settled_as r (system_in c) ≡ settled budget (system_in b)
+  pub tally : tally_in r ≡ settled_tally budget (system_in b)
+  pub kept : (settled_as r (system_in c)).steps ≡ 0 → c ≡ b
   pub stays : sound_system (system_in b) ≡ true → sound_system (system_in c) ≡ true
+
+-- the same by value
+unfoldable pub settled_of : Result SettledSystem Refused → Settled
+settled_of (Ok r) = record { refusal = 0; steps = r.steps; ending = r.ending; system = r.system }
+settled_of (Err e) = record { refusal = number e.refusal; steps = 0; ending = Held; system = e.system }

@@ -2,25 +2,22 @@
 // round does nothing.
 #![tactic(auto)]
 
-ghost use Rattle.std.specs.Prelude.{suc, ◌<◌, ◌≡◌, true, not, length};
-ghost use Rattle.view.specs.Logic.{pick};
+ghost use Rattle.std.specs.Prelude.{◌≡◌, true};
 ghost use Rattle.sound.specs.Sound.{sound_system};
 ghost use Rattle.step.specs.Rest.{resting_from, resting_at, at_rest};
-ghost use Rattle.image.specs.Image.{image_width, system_in};
-ghost use Rattle.settle.specs.Settle.{move_of, tried, tried_at, half_done, round_done, rounds_done, nothing_to_do, ending_of, Settles};
-ghost use Rattle.settle.specs.declared.Ending.TheVariants.{Rest, Held};
-ghost use Rattle.settle.specs.Advances.{Advances, progress_in, nothing_done, with_step};
+ghost use Rattle.image.specs.Image.{system_in};
+ghost use Rattle.settle.specs.Settle.{Settles};
 
 use counting::attempt_tallied;
-use image::{length_at, pending_at, size, variables_at};
+use image::{blank_image, length_at, pending_at, size, variables_at};
 use plan::{Action, Cut, Step};
-use system::refusal::UNSOUND;
-use system::{Pending, System};
-use tallies::{Tally, sum};
-use view::{ProcessId, and};
+use system::System;
+use system::refusal::Refusal;
+use tallies::Tally;
+use view::ProcessId;
 
 // How a settling run ended.
-#[derive(Clone, Copy)]
+#[derive(Clone, Copy, PartialEq, Eq)]
 pub enum Ending {
     // No message waits, and no answer could be given.
     Rest,
@@ -29,29 +26,20 @@ pub enum Ending {
     Budget,
 }
 
-// What a settling run answers: its steps done, how it ended and what it counts, or a refusal.
+// What a settling run answers: its steps done, how it ended and what it counts.
 #[derive(Clone, Copy)]
 pub struct Settling {
-    pub refusal: u8,
     pub steps: u16,
     pub ending: Ending,
     pub tally: Tally,
 }
 
-// What a settling run returns: what it answers, and the system after it.
+// The same by value: with the system after it.
 #[derive(Clone, Copy)]
-pub struct Settled {
-    pub refusal: u8,
+pub struct SettledSystem {
     pub steps: u16,
     pub ending: Ending,
     pub system: System,
-}
-
-// The steps of a run so far, and what they count.
-#[derive(Clone, Copy)]
-pub struct StepsDone {
-    pub steps: u16,
-    pub tally: Tally,
 }
 
 // A run stops after so many steps at the latest.
@@ -64,222 +52,186 @@ pub enum Half {
     Answers,
 }
 
-// What is tried at process p: a take from q, or an answer to q.
-fn move_of(h: Half, p: ProcessId, q: ProcessId) -> Action
-    ensures { result ≡ move_of h p.0 q.0 }
-{
-    match h {
-        Half::Takes => Action::Receive(q, p),
-        Half::Answers => Action::Respond(p, q),
+// A settling run on its way, on an image that holds a sound system of n processes: its steps so far,
+// and what they count.
+#[derive(Drop)]
+struct Run<'a> {
+    image: &'a mut [u8],
+    n: u8,
+    budget: u16,
+    steps: u16,
+    tally: Tally,
+    ghost sound: { sound_system (system_in image.now) ≡ true },
+}
+
+impl Half {
+    ghost use Rattle.settle.specs.Settle.{move_of};
+
+    // What is tried at process p: a take from q, or an answer to q.
+    #[tactic(auto, unfolding(crate::specs::Settle::move_of))]
+    fn move_of(self, p: ProcessId, q: ProcessId) -> Action
+        ensures { result ≡ move_of self p.0 q.0 }
+    {
+        match self {
+            Half::Takes => Action::Receive(q, p),
+            Half::Answers => Action::Respond(p, q),
+        }
     }
 }
 
-// No step yet.
-fn nothing_done() -> StepsDone
-    ensures { result ≡ nothing_done }
-{
-    let tally = tallies::none();
-    StepsDone { steps: 0, tally }
-}
+impl<'a> Run<'a> {
+    ghost use Rattle.std.specs.Prelude.{suc, ◌||◌, not, ltb};
+    ghost use Rattle.settle.specs.Settle.{tried, tried_at, half_done, round_done, rounds_done, nothing_to_do, ending_of};
+    ghost use Rattle.settle.specs.Advances.{progress_of, Advances, Begins};
 
-// One step more, and what it counts.
-fn with_step(done: StepsDone, one: Tally) -> StepsDone
-    requires { done.steps < 65535 }
-    ensures { result ≡ with_step done one }
-{
-    let before = done.tally;
-    let tally = sum(before, one);
-    StepsDone {
-        steps: done.steps + 1,
-        tally,
-    }
-}
-
-// One take or answer, where the budget is not used up. The answer is the steps done so far.
-fn try_one(image: &mut [u8], budget: u16, done: StepsDone, action: Action) -> StepsDone
-    requires { sound_system (system_in image.old) ≡ true }
-    ensures { Advances budget (tried budget action) done image.old result image.new }
-{
-    if done.steps < budget {
-        let a = attempt_tallied(
+    // Before the first step.
+    #[tactic(auto, unfolding(tallies::specs::Tally::no_tally))]
+    fn new(image: &'a mut [u8], budget: u16) -> Run<'a>
+        requires { sound_system (system_in image.old) ≡ true }
+        ensures { Begins budget image.entry result }
+    {
+        let n = size(image);
+        Run {
             image,
-            Step {
+            n,
+            budget,
+            steps: 0,
+            tally: Tally::default(),
+        }
+    }
+
+    // One take or answer, if the budget is not used up.
+    fn try_one(&mut self, action: Action)
+        ensures { Advances (tried self.old.budget action) self.old self.new }
+    {
+        if self.steps < self.budget {
+            let step = Step {
                 action,
                 cut: Cut::Whole,
-            },
-        );
-        if a.refusal == 0 {
-            let one = a.tally;
-            with_step(done, one)
-        } else {
-            done
+            };
+            if let Ok(tally) = attempt_tallied(self.image, step) {
+                self.steps += 1;
+                self.tally += tally;
+            }
         }
-    } else {
-        done
     }
-}
 
-// Process p, with each of the others and itself, in rising order.
-fn try_at(image: &mut [u8], budget: u16, done: StepsDone, h: Half, n: u8, p: ProcessId) -> StepsDone
-    requires { sound_system (system_in image.old) ≡ true }
-    ensures { Advances budget (tried_at budget h n p.0) done image.old result image.new }
-{
-    let mut count = done;
-    let mut q: u8 = 0;
-    while q < n {
-        q += 1;
-        count = try_one(image, budget, count, move_of(h, p, ProcessId(q)));
+    // Process p, with each of the others and itself, in rising order.
+    fn try_at(&mut self, half: Half, p: ProcessId)
+        ensures { Advances (tried_at self.old.budget half self.old.n p.0) self.old self.new }
+    {
+        for q in 1..=self.n {
+            self.try_one(half.move_of(p, ProcessId(q)));
+        }
     }
-    count
-}
 
-// Half a round: each process in rising order.
-fn half_round(image: &mut [u8], budget: u16, done: StepsDone, h: Half, n: u8) -> StepsDone
-    requires { sound_system (system_in image.old) ≡ true }
-    ensures { Advances budget (half_done budget h n) done image.old result image.new }
-{
-    let mut count = done;
-    let mut p: u8 = 0;
-    while p < n {
-        p += 1;
-        count = try_at(image, budget, count, h, n, ProcessId(p));
+    // Half a round: each process in rising order.
+    fn half_round(&mut self, half: Half)
+        ensures { Advances (half_done self.old.budget half self.old.n) self.old self.new }
+    {
+        for p in 1..=self.n {
+            self.try_at(half, ProcessId(p));
+        }
     }
-    count
-}
 
-fn round(image: &mut [u8], budget: u16, done: StepsDone, n: u8) -> StepsDone
-    requires { sound_system (system_in image.old) ≡ true }
-    ensures { Advances budget (round_done budget n) done image.old result image.new }
-{
-    let count = half_round(image, budget, done, Half::Takes, n);
-    half_round(image, budget, count, Half::Answers, n)
-}
+    fn round(&mut self)
+        ensures { Advances (round_done self.old.budget self.old.n) self.old self.new }
+    {
+        self.half_round(Half::Takes);
+        self.half_round(Half::Answers);
+    }
 
-// Rounds, until one does nothing. The answer is the steps done.
-fn rounds(image: &mut [u8], budget: u16, n: u8) -> StepsDone
-    requires { sound_system (system_in image.old) ≡ true }
-    ensures { Advances budget (rounds_done (suc budget) budget n) nothing_done image.old result image.new }
-{
-    let mut count = nothing_done();
-    loop {
-        let before = count.steps;
-        count = round(image, budget, count, n);
-        if count.steps == before {
-            return count;
+    // Rounds, until one does nothing.
+    fn rounds(&mut self)
+        ensures { Advances (rounds_done (suc self.old.budget) self.old.budget self.old.n) self.old self.new }
+    {
+        loop {
+            let before = self.steps;
+            self.round();
+            if self.steps == before {
+                return;
+            }
+        }
+    }
+
+    // Would no take and no answer be done? Asked of a copy, in a round that ends with its first step.
+    fn nothing_to_do(&self) -> bool
+        ensures { result ≡ nothing_to_do (system_in self.now.image.now) }
+    {
+        let mut copied = blank_image();
+        copied.copy_from_slice(self.image);
+        let mut run = Run::new(&mut copied, 1);
+        run.round();
+        run.steps == 0
+    }
+
+    // Is the budget used up, and would a further take or answer be done?
+    fn is_cut_off(&self) -> bool
+        ensures { result ≡ not (ltb self.now.steps self.now.budget || nothing_to_do (system_in self.now.image.now)) }
+    {
+        self.steps >= self.budget && !self.nothing_to_do()
+    }
+
+    // How the run has ended.
+    #[tactic(auto, unfolding(crate::specs::Settle::ending_of, view::specs::Logic::pick))]
+    fn ending(&self) -> Ending
+        ensures { result ≡ ending_of self.now.budget (progress_of self.now) }
+    {
+        if self.is_cut_off() {
+            Ending::Budget
+        } else if at_rest(self.image) {
+            Ending::Rest
+        } else {
+            Ending::Held
         }
     }
 }
 
 // Does no message wait from process q to process p, and could p not answer q?
+#[tactic(auto, using(crate::proofs::Laws::no_answer, crate::proofs::Laws::no_reply), unfolding(step::specs::Rest::resting_from, step::specs::Rest::idle_from, step::specs::Rest::answerable, step::specs::Rest::matches))]
 fn resting_from(image: &[u8], p: ProcessId, q: ProcessId) -> bool
     ensures { result ≡ resting_from (system_in image.now) p.0 q.0 }
 {
-    let x = variables_at(image, p);
     let idle = length_at(image, q, p) == 0;
     match pending_at(image, p, q) {
-        Pending::Nothing => idle,
-        Pending::Proposal(view, index) => and(idle, !and(!x.crashed, view == x.view)),
+        None => idle,
+        Some(r) => {
+            let x = variables_at(image, p);
+            idle & (x.crashed | (r.view != x.view))
+        }
     }
 }
 
-fn resting_at(image: &[u8], n: u8, p: ProcessId) -> bool
-    requires { n ≡ (system_in image.now).n }
+fn resting_at(image: &[u8], p: ProcessId) -> bool
     ensures { result ≡ resting_at (system_in image.now) p.0 }
 {
-    let mut ok = true;
-    let mut q: u8 = 0;
-    while q < n {
-        q += 1;
-        ok = and(ok, resting_from(image, p, ProcessId(q)));
-    }
-    ok
+    (1..=size(image)).all(|q| resting_from(image, p, ProcessId(q)))
 }
 
-fn at_rest(image: &[u8], n: u8) -> bool
-    requires { n ≡ (system_in image.now).n }
+fn at_rest(image: &[u8]) -> bool
     ensures { result ≡ at_rest (system_in image.now) }
 {
-    let mut ok = true;
-    let mut p: u8 = 0;
-    while p < n {
-        p += 1;
-        ok = and(ok, resting_at(image, n, ProcessId(p)));
-    }
-    ok
-}
-
-// The bytes for an image.
-fn image_buffer() -> [u8; 2105]
-    ensures { length result ≡ image_width }
-{
-    [0; 2105]
-}
-
-// Would no take and no answer be done? Asked of a copy, in a round that ends with its first step.
-fn nothing_to_do(image: &[u8], n: u8) -> bool
-    requires { (sound_system (system_in image.now) ≡ true) × (n ≡ (system_in image.now).n) }
-    ensures { result ≡ nothing_to_do (system_in image.now) }
-{
-    let mut copied = image_buffer();
-    copied.copy_from_slice(image);
-    let done = round(&mut copied, 1, nothing_done(), n);
-    done.steps == 0
-}
-
-fn rest_or_held(image: &[u8], n: u8) -> Ending
-    requires { n ≡ (system_in image.now).n }
-    ensures { result ≡ pick (at_rest (system_in image.now)) Rest Held }
-{
-    if at_rest(image, n) {
-        Ending::Rest
-    } else {
-        Ending::Held
-    }
-}
-
-// How a run has ended that did these steps.
-fn ending_of(image: &[u8], budget: u16, done: StepsDone) -> Ending
-    requires { sound_system (system_in image.now) ≡ true }
-    ensures { result ≡ ending_of budget (progress_in image.now done) }
-{
-    let n = size(image);
-    if done.steps < budget {
-        rest_or_held(image, n)
-    } else if nothing_to_do(image, n) {
-        rest_or_held(image, n)
-    } else {
-        Ending::Budget
-    }
+    (1..=size(image)).all(|p| resting_at(image, ProcessId(p)))
 }
 
 // The settling run, with a budget of the caller's.
-pub fn settle_within(image: &mut [u8], budget: u16) -> Settling
+pub fn settle_within(image: &mut [u8], budget: u16) -> Result<Settling, Refusal>
     ensures { Settles budget image.old result image.new }
 {
-    if integrity::sound(image) {
-        let n = size(image);
-        let done = rounds(image, budget, n);
-        let ending = ending_of(image, budget, done);
-        let tally = done.tally;
-        Settling {
-            refusal: 0,
-            steps: done.steps,
-            ending,
-            tally,
-        }
-    } else {
-        let tally = tallies::none();
-        Settling {
-            refusal: UNSOUND,
-            steps: 0,
-            ending: Ending::Held,
-            tally,
-        }
+    if !integrity::sound(image) {
+        return Err(Refusal::Unsound);
     }
+    let mut run = Run::new(image, budget);
+    run.rounds();
+    Ok(Settling {
+        steps: run.steps,
+        ending: run.ending(),
+        tally: run.tally,
+    })
 }
 
 // The settling run.
-pub fn settle(image: &mut [u8]) -> Settling
+pub fn settle(image: &mut [u8]) -> Result<Settling, Refusal>
     ensures { Settles 7936 image.old result image.new }
 {
     settle_within(image, BUDGET)

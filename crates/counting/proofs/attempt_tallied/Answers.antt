@@ -1,8 +1,9 @@
--- `counting::attempt_tallied`: the step, and what it counts by its number.
-use Rattle.counting.proofs.Counting.{step_counts}
+-- `counting::attempt_tallied`: a step that is done counts what was counted before, and one that is refused nothing.
+use Rattle.counting.proofs.Counting.{tallied}
 use Rattle.counting.proofs.attempt_tallied.Goals as goal
 
-pub returns : goal.returns
-returns c =
-    let done = c.attempt-refusal.ensures in
-    (done, step_counts _ _ _ _ _ _ done c.counts_if_done-counts.ensures c.tally_if-tally.ensures)
+pub returns-clause-step : goal.returns-clause-step
+returns-clause-step c = rw c.and.ensures (tallied _ _ _ _ _ c.attempt.ensures c.counts_if_done-counts.ensures).0
+
+pub returns-clause-tally : goal.returns-clause-tally
+returns-clause-tally c = rw c.and.ensures (tallied _ _ _ _ _ c.attempt.ensures c.counts_if_done-counts.ensures).1

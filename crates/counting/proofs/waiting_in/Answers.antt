@@ -1,30 +1,24 @@
--- `counting::waiting_in`: after p turns the sum is that of the first p processes.
-use Prim.Native.Nat.{◌-◌}
-use mathlib.Core.Path.{◌≡◌, ◌∙◌}
-use native.Mathlib.Omega.{arith}
-use Rattle.view.specs.Logic.{pick}
+-- `counting::waiting_in`: the sum of what waits towards each process, for none of them above 65,025.
+use borrow.Author.Rules.{rules}
+use Rattle.std.proofs.Common.{◌∙◌, ap, arith}
+use Rattle.view.specs.Logic.{pick, sum_up_to}
+use Rattle.view.proofs.Chains.{sum_told, sum_fits}
 use Rattle.step.specs.Step.{taken_off}
-use Rattle.step.specs.Counts.{waiting_in}
-use Rattle.counting.proofs.Counting.{sum_none, sum_more, sum_to}
+use Rattle.step.specs.Counts.{waiting_towards, waiting_in}
+use Rattle.image.specs.Image.{system_in}
+use Rattle.counting.proofs.Counting.{few_in}
 use Rattle.counting.proofs.waiting_in.Goals as goal
 
-pub loop-p-init : goal.loop-p-init
-loop-p-init c = (omega arith, omega arith, sum_none _)
-
-pub overflow_add-sum : goal.overflow_add-sum
-overflow_add-sum c =
-    let l = c.loop-p.invariant in
-    omega (arith, l.0, l.1, c.waiting_towards-sum.ensures.1)
-
-pub loop-p-preserved : goal.loop-p-preserved
+pub sum-requires-clause-fits : goal.sum-requires-clause-fits
 unfolding taken_off pick
-loop-p-preserved c =
-    let l = c.loop-p.invariant in
-    (omega (arith, c.loop-p-test.true), omega (arith, l.1, c.waiting_towards-sum.ensures.1), sum_more _ _ _ _ l.2 c.waiting_towards-sum.ensures.0)
+sum-requires-clause-fits c =
+    let h = waiting_towards (system_in c.args.image.now) in
+    sum_fits _ h c.new.ensures.start c.new.ensures.end c.new.ensures.exhausted c.map.ensures.source c.map.ensures.closure (λ x a q k. search rules) _
+    (omega (arith, few_in _ c.type_inv.image c.size.result c.size.type_inv))
 
 pub returns : goal.returns
-unfolding waiting_in
+unfolding waiting_in taken_off pick
 returns c =
-    let l = c.loop-p.invariant in
-    let end : c.loop-p.p ≡ c.size-n.result = omega (arith, l.0, c.loop-p-test.false) in
-    sum_to _ _ _ _ l.2 (end ∙ c.size-n.ensures)
+    let h = waiting_towards (system_in c.args.image.now) in
+    sum_told _ h c.new.ensures.start c.new.ensures.end c.new.ensures.exhausted c.map.ensures.source c.map.ensures.closure (λ x a q k. search rules) _ c.sum.ensures.ran
+    ∙ ap (λ k. sum_up_to k h) c.size.ensures

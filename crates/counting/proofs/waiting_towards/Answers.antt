@@ -1,27 +1,23 @@
--- `counting::waiting_towards`: after q turns the sum is that of the first q channels.
-use Prim.Native.Nat.{◌-◌}
-use mathlib.Core.Path.{◌≡◌, ◌∙◌}
-use native.Mathlib.Omega.{arith}
+-- `counting::waiting_towards`: the sum of the channels' lengths, none of them above 255.
+use borrow.Author.Rules.{rules}
+use Rattle.std.proofs.Common.{◌∙◌, ap, arith}
+use Rattle.view.specs.Logic.{sum_up_to}
+use Rattle.view.proofs.Chains.{sum_told, sum_fits}
+use Rattle.step.specs.Step.{taken_off}
 use Rattle.step.specs.Counts.{waiting_from, waiting_towards}
-use Rattle.counting.proofs.Counting.{sum_none, sum_more, sum_to, taken_size}
+use Rattle.image.specs.Image.{system_in}
+use Rattle.counting.proofs.Counting.{few_towards, taken_size}
 use Rattle.counting.proofs.waiting_towards.Goals as goal
 
-pub loop-q-init : goal.loop-q-init
-loop-q-init c = (omega arith, omega arith, sum_none _)
-
-pub overflow_add-sum : goal.overflow_add-sum
-overflow_add-sum c =
-    let l = c.loop-q.invariant in
-    omega (arith, l.0, l.1)
-
-pub loop-q-preserved : goal.loop-q-preserved
-loop-q-preserved c =
-    let l = c.loop-q.invariant in
-    (omega (arith, c.loop-q-test.true), omega (arith, l.1), sum_more _ _ _ _ l.2 c.waiting_from.ensures)
+pub sum-requires-clause-fits : goal.sum-requires-clause-fits
+sum-requires-clause-fits c =
+    let h = waiting_from (taken_off (system_in c.args.image.now) c.args.c) c.args.c.actor.0 in
+    sum_fits _ h c.new.ensures.start c.new.ensures.end c.new.ensures.exhausted c.map.ensures.source c.map.ensures.closure (λ x a q k. search rules) _
+    (omega (arith, few_towards _ c.type_inv.image c.args.c c.size.result c.size.type_inv))
 
 pub returns : goal.returns
 unfolding waiting_towards
 returns c =
-    let l = c.loop-q.invariant in
-    let end : c.loop-q.q ≡ c.size-n.result = omega (arith, l.0, c.loop-q-test.false) in
-    (sum_to _ _ _ _ l.2 (end ∙ c.size-n.ensures ∙ taken_size _ _), omega (arith, l.0, l.1))
+    let h = waiting_from (taken_off (system_in c.args.image.now) c.args.c) c.args.c.actor.0 in
+    let told = sum_told _ h c.new.ensures.start c.new.ensures.end c.new.ensures.exhausted c.map.ensures.source c.map.ensures.closure (λ x a q k. search rules) _ c.sum.ensures.ran in
+    (told ∙ ap (λ k. sum_up_to k h) (c.size.ensures ∙ taken_size _ _), omega (arith, told, few_towards _ c.type_inv.image c.args.c c.size.result c.size.type_inv))

@@ -1,21 +1,25 @@
--- `effects::room`: after i turns the flag says whether the first i addressees take the message, and the rest is the view halved i times.
-use mathlib.Core.Path.{sym, ◌∙◌}
-use mathlib.Core.Bool.{true}
-use native.Mathlib.Omega.{arith}
-use Rattle.view.proofs.Laws.{tested_up_to, none_tested, one_more}
-use Rattle.effects.proofs.Halves.{not_halved, halved_more, turns_left, all_asked}
+-- `effects::room`: what the loop over the addressees asks is asked of each of 1 to 8 that is named.
+use mathlib.Core.Path.{◌∙◌}
+use borrow.Author.Rules.{rules}
+use borrow.Author.Tests.{tests}
+use Rattle.std.proofs.lemmas.Iterator.Consumers.{YieldsList-from_first}
+use Rattle.std.proofs.lemmas.Iterator.Search.{all_from_yields_List}
+use Rattle.view.specs.declared.ProcessId.{ProcessId}
+use Rattle.system.specs.System.{takes_if_named, room_for}
+use Rattle.step.specs.Step.{taken_off}
+use Rattle.image.specs.Image.{system_in}
+use Rattle.effects.specs.declared.Members.{Members}
+use Rattle.effects.specs.Named.{members_of, takes}
+use Rattle.effects.proofs.Named.{all_members}
 use Rattle.effects.proofs.room.Goals as goal
 
-pub loop-rest-init : goal.loop-rest-init
-loop-rest-init c = (omega arith, not_halved _, none_tested true _)
-
-pub loop-rest-preserved : goal.loop-rest-preserved
-loop-rest-preserved c =
-    let l = c.loop-rest.invariant in
-    (turns_left _ _ c.ranges.to.fits l.0 (λ none. c.loop-rest-test.true (l.1 ∙ none)), halved_more _ _ _ l.1, one_more true _ _ _ _ _ l.2 c.and-ok.ensures c.takes_if_named.ensures)
-
 pub returns : goal.returns
-unfolding tested_up_to
+unfolding room_for takes_if_named takes
 returns c =
-    let l = c.loop-rest.invariant in
-    l.2 ∙ all_asked _ _ _ _ c.ranges.to.fits l.0 (sym l.1 ∙ c.loop-rest-test.false)
+    let a = c.args in
+    let t = taken_off (system_in a.image.now) a.c in
+    let test = takes t a.c.actor.0 in
+    all_from_yields_List test _ _ _ c.all.ensures.ran
+    (YieldsList-from_first (λ (p : ProcessId). p.0) (λ (s : Members). members_of s.rest) (members_of a.to) (rw c.members_of.ensures))
+    (λ x b q k. search (rules, tests))
+    ∙ all_members a.to test

@@ -1,40 +1,56 @@
 -- `engine::do_receive`: by the guard, and by what is chosen.
-use mathlib.Core.Path.{refl}
-use Rattle.step.specs.Scope.{scope_of}
+use Prim.Native.Nat.{ℕ}
+use mathlib.Core.Path.{◌≡◌, refl, ◌∙◌}
+use mathlib.Core.List.{List}
+use Rattle.std.specs.Prelude.{Ok}
+use Rattle.system.specs.System.{variables_at}
+use Rattle.plan.specs.declared.Action.TheVariants.{Receive}
+use Rattle.plan.specs.declared.ReceiveChoice.{ReceiveChoice}
 use Rattle.plan.specs.Choice.{received_plan}
-use Rattle.engine.proofs.Given.{turned_away, passes}
-use Rattle.engine.proofs.Chosen.{receive-refused, receive-chosen, commit_chosen, propose_chosen}
-use Rattle.alternatives.proofs.Carrying.{refusing_gives}
+use Rattle.plan.specs.Plan.{Planned}
+use Rattle.step.specs.Scope.{taking, scope_of}
+use Rattle.image.specs.Image.{system_in}
+use Rattle.alternatives.specs.Gives.{Gives, carried}
+use Rattle.engine.specs.Engine.{Attempts}
+use Rattle.engine.proofs.Given.{turned_away}
+use Rattle.engine.proofs.Chosen.{receive_refused, received}
 use Rattle.engine.proofs.do_receive.Goals as goal
+use Rattle.engine.proofs.do_receive.Goals.{In_ok-view}
 
-pub returns-in-Refuse : goal.returns-in-Refuse
-unfolding received_plan scope_of
-returns-in-Refuse c = passes _ _ _ refl _ c.guard-refusal.ensures c.if-refusal-eq0.true _ (receive-chosen _ _ _ _ _ _ _ c.in-Refuse.is c.variables_at-x.ensures c.front_at.ensures c.receive_choice.ensures.0) _ _ (refusing_gives _ _ _ _ _ _ (receive-refused _ c.in-Refuse.is c.receive_choice.ensures.1))
+pub returns-in_err-guard : goal.returns-in_err-guard
+unfolding scope_of
+returns-in_err-guard c = turned_away _ _ _ _ c.from_residual.ensures.1 c.in_err-guard.ensures
+
+pub returns-in_err-view : goal.returns-in_err-view
+returns-in_err-view c = receive_refused _ _ _ _ _ c.in_ok-guard.ensures _ _ _ c.variables_at-x.ensures c.front_at.ensures c.receive_choice.ensures _ _ c.from_residual-in_err-view.ensures.1 c.in_err-view.was
+
+chosen : (c : In_ok-view) (y : ReceiveChoice) → c.in_ok-view.field-0 ≡ y → (a : Planned) (k : ℕ) (d : List ℕ)
+    → Gives (carried (system_in c.args.image.now) (taking c.args.q c.args.p) c.args.cut a) c.args.image.now k d
+    → a ≡ received_plan c.args.q (variables_at (system_in c.args.image.now) c.args.p.0) (Ok y)
+    → Attempts (record { action = Receive c.args.q c.args.p; cut = c.args.cut }) c.args.image.now k d
+chosen c y is a k d gives plan =
+    received _ _ _ _ _ c.in_ok-guard.ensures _ _ _ c.variables_at-x.ensures c.front_at.ensures c.receive_choice.ensures a k d gives (plan ∙ rw (c.in_ok-view.was, is, c.variables_at-x.ensures))
 
 pub returns-in-Record : goal.returns-in-Record
-unfolding received_plan scope_of
-returns-in-Record c = passes _ _ _ refl _ c.guard-refusal.ensures c.if-refusal-eq0.true _ (receive-chosen _ _ _ _ _ _ _ c.in-Record.is c.variables_at-x.ensures c.front_at.ensures c.receive_choice.ensures.0) _ _ c.record_proposal.ensures
+unfolding received_plan
+returns-in-Record c = chosen (goal.at.returns-in-Record c).In_ok-view _ c.in-Record.is _ _ _ c.record_proposal.ensures refl
 
 pub returns-in-Skip : goal.returns-in-Skip
-unfolding received_plan scope_of
-returns-in-Skip c = passes _ _ _ refl _ c.guard-refusal.ensures c.if-refusal-eq0.true _ (receive-chosen _ _ _ _ _ _ _ c.in-Skip.is c.variables_at-x.ensures c.front_at.ensures c.receive_choice.ensures.0) _ _ c.skip_message.ensures
-
-pub returns-in-Mark : goal.returns-in-Mark
-unfolding received_plan scope_of
-returns-in-Mark c = passes _ _ _ refl _ c.guard-refusal.ensures c.if-refusal-eq0.true _ (receive-chosen _ _ _ _ _ _ _ c.in-Mark.is c.variables_at-x.ensures c.front_at.ensures c.receive_choice.ensures.0) _ _ c.mark_acks.ensures
+unfolding received_plan
+returns-in-Skip c = chosen (goal.at.returns-in-Skip c).In_ok-view _ c.in-Skip.is _ _ _ c.skip_message.ensures refl
 
 pub returns-in-CommitAll : goal.returns-in-CommitAll
-unfolding scope_of
-returns-in-CommitAll c = passes _ _ _ refl _ c.guard-refusal.ensures c.if-refusal-eq0.true _ (commit_chosen _ _ _ _ _ _ _ c.with_acks.ensures c.in-CommitAll.is c.variables_at-x.ensures c.front_at.ensures c.receive_choice.ensures.0) _ _ c.send_taken.ensures
+unfolding received_plan
+returns-in-CommitAll c = chosen (goal.at.returns-in-CommitAll c).In_ok-view _ c.in-CommitAll.is _ _ _ c.send_taken.ensures (rw (c.with_acks.ensures, c.variables_at-x.ensures))
+
+pub returns-in-Mark : goal.returns-in-Mark
+unfolding received_plan
+returns-in-Mark c = chosen (goal.at.returns-in-Mark c).In_ok-view _ c.in-Mark.is _ _ _ c.mark_acks.ensures refl
 
 pub returns-in-ProposeAgain : goal.returns-in-ProposeAgain
-unfolding scope_of
-returns-in-ProposeAgain c = passes _ _ _ refl _ c.guard-refusal.ensures c.if-refusal-eq0.true _ (propose_chosen _ _ _ _ _ _ _ _ c.reproposing.ensures c.in-ProposeAgain.is c.variables_at-x.ensures c.front_at.ensures c.receive_choice.ensures.0) _ _ c.send_taken-in-ProposeAgain.ensures
+unfolding received_plan
+returns-in-ProposeAgain c = chosen (goal.at.returns-in-ProposeAgain c).In_ok-view _ c.in-ProposeAgain.is _ _ _ c.send_taken-in-ProposeAgain.ensures (rw (c.reproposing.ensures, c.variables_at-x.ensures))
 
 pub returns-in-Enter : goal.returns-in-Enter
-unfolding received_plan scope_of
-returns-in-Enter c = passes _ _ _ refl _ c.guard-refusal.ensures c.if-refusal-eq0.true _ (receive-chosen _ _ _ _ _ _ _ c.in-Enter.is c.variables_at-x.ensures c.front_at.ensures c.receive_choice.ensures.0) _ _ c.enter_view.ensures
-
-pub returns-else-refusal-eq0 : goal.returns-else-refusal-eq0
-unfolding scope_of
-returns-else-refusal-eq0 c = turned_away _ _ _ refl _ c.guard-refusal.ensures c.if-refusal-eq0.false
+unfolding received_plan
+returns-in-Enter c = chosen (goal.at.returns-in-Enter c).In_ok-view _ c.in-Enter.is _ _ _ c.enter_view.ensures refl

@@ -1,156 +1,42 @@
--- `list::perform_all`: after count turns so many orders are obeyed; then bytes that break off, if there are any.
-use Prim.Native.Nat.{ℕ, ◌+◌, ◌-◌, ◌<◌}
-use mathlib.Core.Path.{◌≡◌, refl, sym, ◌∙◌, ap}
+-- `list::perform_all`: as many orders are obeyed as there were turns, and the others are still to come.
+use Prim.Native.Nat.{◌<◌, min}
+use mathlib.Core.Path.{◌≡◌, ◌∙◌}
 use native.Mathlib.Omega.{arith}
-use mathlib.Core.Bool.{true}
-use mathlib.Core.List.{◌++◌}
-use lib.ListN.{length, length-set, drop}
-use Rattle.image.specs.Image.{system_in}
-use Rattle.list.specs.List.{Unknown, order_count, orders_from, orders_in, obeyed, numbers_of}
-use Rattle.list.proofs.Lists.{none_yet, one_further, all_told, all_obeyed, still_kept, orders_long, order_inside, breaks_off, whole_first, order_here}
-use borrow.Author.Rules.{rules}
+use lib.ListN.{length}
+use lib.Seq.{set-get_or}
+use Rattle.list.specs.List.{order_count}
+use Rattle.list.proofs.Lists.{same_order, next_piece, one_left, none_left, one_further, still_kept, performed}
 use Rattle.list.proofs.perform_all.Goals as goal
 
-pub loop-count-init : goal.loop-count-init
-loop-count-init c =
-    (rw c.order_count.ensures at c.lesser-total.ensures, c.lesser-whole.ensures, omega arith, refl, c.sound-good.ensures, none_yet _ _ _ _, λ no. refl)
-
-pub overflow_mul-at : goal.overflow_mul-at
-overflow_mul-at c =
+pub loop-number-preserved : goal.loop-number-preserved
+loop-number-preserved c =
+    let l = c.loop-number.invariant in
     let a = c.args in
-    let l = c.loop-count in
-    let inside = (order_inside a.list.now a.numbers.now _ l.count l.invariant.1 c.loop-count-test.true).0 in
-    search rules
-
-pub bounds-list-at : goal.bounds-list-at
-bounds-list-at c =
-    let a = c.args in
-    let l = c.loop-count in
-    let inside = (order_inside a.list.now a.numbers.now _ l.count l.invariant.1 c.loop-count-test.true).0 in
-    search rules
-
-pub overflow_add-at : goal.overflow_add-at
-overflow_add-at c =
-    let a = c.args in
-    let l = c.loop-count in
-    let inside = (order_inside a.list.now a.numbers.now _ l.count l.invariant.1 c.loop-count-test.true).0 in
-    search rules
-
-pub bounds-list-at-in-loop-count : goal.bounds-list-at-in-loop-count
-bounds-list-at-in-loop-count c =
-    let a = c.args in
-    let l = c.loop-count in
-    let inside = (order_inside a.list.now a.numbers.now _ l.count l.invariant.1 c.loop-count-test.true).0 in
-    search rules
-
-pub overflow_add-at-in-loop-count : goal.overflow_add-at-in-loop-count
-overflow_add-at-in-loop-count c =
-    let a = c.args in
-    let l = c.loop-count in
-    let inside = (order_inside a.list.now a.numbers.now _ l.count l.invariant.1 c.loop-count-test.true).0 in
-    search rules
-
-pub bounds-list-at-in-loop-count-2 : goal.bounds-list-at-in-loop-count-2
-bounds-list-at-in-loop-count-2 c =
-    let a = c.args in
-    let l = c.loop-count in
-    let inside = (order_inside a.list.now a.numbers.now _ l.count l.invariant.1 c.loop-count-test.true).0 in
-    search rules
-
-pub overflow_add-at-in-loop-count-2 : goal.overflow_add-at-in-loop-count-2
-overflow_add-at-in-loop-count-2 c =
-    let a = c.args in
-    let l = c.loop-count in
-    let inside = (order_inside a.list.now a.numbers.now _ l.count l.invariant.1 c.loop-count-test.true).0 in
-    search rules
-
-pub bounds-list-at-in-loop-count-3 : goal.bounds-list-at-in-loop-count-3
-bounds-list-at-in-loop-count-3 c =
-    let a = c.args in
-    let l = c.loop-count in
-    let inside = (order_inside a.list.now a.numbers.now _ l.count l.invariant.1 c.loop-count-test.true).0 in
-    search rules
-
-pub obey-requires : goal.obey-requires
-obey-requires c = c.loop-count.invariant.4
-
-pub bounds-numbers-count : goal.bounds-numbers-count
-bounds-numbers-count c =
-    let a = c.args in
-    let l = c.loop-count in
-    rw l.invariant.5.long (order_inside a.list.now a.numbers.now _ l.count l.invariant.1 c.loop-count-test.true).1
-
-pub loop-count-preserved : goal.loop-count-preserved
-loop-count-preserved c =
-    let a = c.args in
-    let l = c.loop-count in
-    let t = c.loop-count-test.true in
-    let o = c.obey in
-    let inside = order_inside a.list.now a.numbers.now _ l.count l.invariant.1 t in
-    let more : l.count < c.lesser-total.result = omega (arith, t, whole_first a.list.now _ _ _ l.invariant.1 l.invariant.0) in
-    let room = rw (← l.invariant.5.long) at inside.1 in (
-      l.invariant.0,
-      l.invariant.1,
-      omega (arith, t),
-      o.auto.image ∙ l.invariant.3,
-      o.ensures.1,
-      one_further _ _ _ _ l.count _ _ _ _ _ more room (sym (order_here a.list.now l.count inside.0)) o.ensures.0.outcome l.invariant.5,
-      still_kept _ _ _ _ _ _ room l.invariant.6 o.ensures.0.kept,
+    let i = c.loop-number.number-index in
+    let steps = c.in-Some.ensures.steps in
+    let piece = steps.1 in
+    let four = rw l.0 at piece.1 in
+    let room : i < length c.loop-number.numbers = omega arith in
+    let more : i < min (length a.numbers.now) (order_count a.list.now) = omega (arith, one_left a.list.now _ _ _ i l.1 piece.0 four piece.2) in (
+      steps.0 ∙ l.0,
+      next_piece a.list.now _ _ _ i l.1 piece.0 four,
+      c.obey.ensures.stays,
+      one_further _ _ _ _ i _ _ _ _ _ more room (same_order a.list.now _ _ _ i l.1 piece.0 four) (rw c.number_of.ensures c.obey.ensures.gives.outcome) l.3,
+      still_kept _ _ _ _ i _ room l.4 (rw c.number_of.ensures c.obey.ensures.gives.kept),
     )
 
-pub bounds-numbers-count-then-count-total : goal.bounds-numbers-count-then-count-total
-bounds-numbers-count-then-count-total c =
-    let l = c.loop-count in
-    rw l.invariant.5.long (omega (arith, c.if-count-total.true, l.invariant.0))
-
-pub shape_of-image-then-count-total : goal.shape_of-image-then-count-total
-shape_of-image-then-count-total c = let long = c.loop-count.invariant.3 in search rules
-
-pub shape_of-numbers-then-count-total : goal.shape_of-numbers-then-count-total
-shape_of-numbers-then-count-total c = simp length-set c.loop-count.invariant.5.long
-
-pub returns-then-count-total : goal.returns-then-count-total
-unfolding orders_in obeyed
-returns-then-count-total c =
+pub returns-after-loop-number : goal.returns-after-loop-number
+returns-after-loop-number c =
+    let l = c.loop-number.invariant in
     let a = c.args in
-    let l = c.loop-count in
-    let e = l.invariant.0 in
-    let t = c.if-count-total.true in
-    let last : l.count ≡ c.lesser-whole.result = omega (arith, l.invariant.2, c.loop-count-test.false) in
-    let off = breaks_off a.list.now (length a.numbers.now) l.count _ (last ∙ l.invariant.1) e t in
-    let room : l.count < length l.numbers = rw l.invariant.5.long (omega (arith, t, e)) in
-    let so_far = one_further a.list.now (system_in a.image.now) a.numbers.now _ l.count _ _ l.numbers 8 Unknown t room off.0 refl l.invariant.5 in
-    let end : l.count + 1 ≡ c.lesser-total.result = sym off.1 in
-    let all = all_obeyed a.list.now (system_in a.image.now) a.numbers.now _ _ _ _ end so_far in
-    record {
-      count = e ∙ sym (orders_long _ _ _);
-      system = rw e at all.0;
-      numbers =
-          (rw end at all.1)
-          ∙ ap (λ (n : ℕ). numbers_of (system_in a.image.now) (orders_from n a.list.now 0) ++ drop c.lesser-total.result a.numbers.now) e;
-      kept = λ no. still_kept _ _ _ _ _ _ room l.invariant.6 (λ k. refl) (rw (rw e at (all_told a.list.now (system_in a.image.now) a.numbers.now _ _ _ (l.count + 1) end so_far)) at no);
-    }
+    let end : c.loop-number.number-index ≡ min (length a.numbers.now) (order_count a.list.now) = omega (arith, l.3.within, l.3.long) in
+    performed _ _ _ _ _ _ _ (rw c.div_ceil.ensures at c.min-total.ensures) end l.3 l.4
 
-pub shape_of-image-else-count-total : goal.shape_of-image-else-count-total
-shape_of-image-else-count-total c = let long = c.loop-count.invariant.3 in search rules
-
-pub shape_of-numbers-else-count-total : goal.shape_of-numbers-else-count-total
-shape_of-numbers-else-count-total c = let long = c.loop-count.invariant.5.long in search rules
-
-pub returns-else-count-total : goal.returns-else-count-total
-unfolding orders_in
-returns-else-count-total c =
+pub returns-in_default : goal.returns-in_default
+returns-in_default c =
+    let l = c.loop-number.invariant in
     let a = c.args in
-    let l = c.loop-count in
-    let e = l.invariant.0 in
-    let so_far = l.invariant.5 in
-    let end : l.count ≡ c.lesser-total.result = omega (arith, so_far.within, c.if-count-total.false) in
-    let all = all_obeyed a.list.now (system_in a.image.now) a.numbers.now _ _ _ _ end so_far in
-    record {
-      count = e ∙ sym (orders_long _ _ _);
-      system = rw e at all.0;
-      numbers =
-          (rw end at all.1)
-          ∙ ap (λ (n : ℕ). numbers_of (system_in a.image.now) (orders_from n a.list.now 0) ++ drop c.lesser-total.result a.numbers.now) e;
-      kept = λ no. l.invariant.6 (rw (rw e at (all_told a.list.now (system_in a.image.now) a.numbers.now _ _ _ l.count end so_far)) at no);
-    }
+    let i = c.loop-number.number-index in
+    let none = none_left a.list.now i (rw l.1 at c.in_default.ensures.steps.1.0) in
+    let end : i ≡ min (length a.numbers.now) (order_count a.list.now) = omega (arith, l.3.within) in
+    rw set-get_or (performed _ _ _ _ _ _ _ (rw c.div_ceil.ensures at c.min-total.ensures) end l.3 l.4)

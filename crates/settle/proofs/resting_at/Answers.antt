@@ -1,26 +1,12 @@
--- `settle::resting_at`: after q turns the flag speaks of the first q processes.
-use Prim.Native.Nat.{ℕ, ◌-◌}
-use mathlib.Core.Path.{◌≡◌, ◌∙◌, ap}
-use mathlib.Core.Bool.{true}
-use native.Mathlib.Omega.{arith}
-use Rattle.view.specs.Logic.{all_up_to}
-use Rattle.view.proofs.Laws.{tested_up_to, none_tested, one_more}
+-- `settle::resting_at`: each of the processes.
+use borrow.Author.Rules.{rules}
+use Rattle.std.proofs.Common.{◌∙◌}
+use Rattle.view.proofs.Chains.{all_tested}
 use Rattle.step.specs.Rest.{resting_from, resting_at}
 use Rattle.image.specs.Image.{system_in}
 use Rattle.settle.proofs.resting_at.Goals as goal
 
-pub loop-q-init : goal.loop-q-init
-loop-q-init c = (omega arith, none_tested true _)
-
-pub loop-q-preserved : goal.loop-q-preserved
-loop-q-preserved c =
-    let i = c.loop-q.invariant in
-    (omega arith, one_more true _ _ _ _ _ i.1 c.and-ok.ensures c.resting_from.ensures)
-
 pub returns : goal.returns
-unfolding resting_at tested_up_to
+unfolding resting_at
 returns c =
-    let l = c.loop-q in
-    let end : l.q ≡ c.args.n = omega arith in
-    let a = c.args in
-    l.invariant.1 ∙ ap (λ (k : ℕ). all_up_to k (resting_from (system_in a.image.now) a.p.0)) (end ∙ c.requires)
+    all_tested _ _ _ _ (resting_from (system_in c.args.image.now) c.args.p.0) c.new.ensures.start (c.new.ensures.end ∙ c.size.ensures) c.new.ensures.exhausted c.all.ensures.ran (λ b x q k. search rules)

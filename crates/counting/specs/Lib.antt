@@ -1,0 +1,3 @@
+-- What the program's plans are in the definitions' own form, and what its answers count.
+pub mod Plans
+pub mod Tallied

@@ -1,0 +1,2 @@
+-- What is done for one process of a set.
+pub mod Named
