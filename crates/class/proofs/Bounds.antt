@@ -1,6 +1,7 @@
 -- The line of a name has at most 412 bytes: 255 of the name, six numbers of at most twenty digits, and the words between them.
 use Prim.Native.Nat.{ℕ, ◌≤◌}
 use mathlib.Core.List.{List}
+use Rattle.std.specs.Prelude.{Ok, Err}
 use native.Mathlib.Omega.{arith}
 use lib.ListN.{length, take, length-take}
 use Rattle.tallies.specs.declared.Tally.{Tally}
@@ -8,9 +9,8 @@ use Rattle.tallies.specs.declared.share.Share.{Share}
 use Rattle.tallies.specs.Share.{share_of}
 use Rattle.print.specs.Text.{bytes}
 use Rattle.print.proofs.Bounds.{AtMost, both, twenty_digits}
-use Rattle.class.specs.declared.Finding.{Finding}
-use Rattle.class.specs.declared.Finding.TheVariants.{Unopened, TooLong, Counted}
-use Rattle.class.specs.Class.{share_text, counts_text, finding_text, name_line}
+use Rattle.class.specs.declared.Uncounted.TheVariants.{Unopened, TooLong}
+use Rattle.class.specs.Class.{Finding, share_text, counts_text, finding_text, name_line}
 
 record Words : Type 0 where
   sent : AtMost 6 (bytes " sent ")
@@ -55,9 +55,9 @@ counts_length t =
 
 finding_length : (f : Finding) → AtMost 156 (finding_text f)
 unfolding finding_text
-finding_length Unopened = words.unopened
-finding_length TooLong = words.long
-finding_length (Counted t) = counts_length t
+finding_length (Ok t) = counts_length t
+finding_length (Err Unopened) = words.unopened
+finding_length (Err TooLong) = words.long
 
 name_length : (name : List ℕ) → AtMost 255 (take 255 name)
 name_length name = record { bytes_are = simp length-take (omega arith) }

@@ -5,15 +5,18 @@ use mathlib.Core.Bool.{Bool, true, false, ◌||◌}
 use mathlib.Core.List.{List, [], ◌∷◌, ◌++◌}
 use native.Mathlib.Omega.{arith}
 use borrow.Author.Tests.{lt-ltb, le-ltb, ltb-true, ltb-false}
+use Rattle.std.specs.Prelude.{None}
+use Rattle.std.specs.Bool.{then_some}
 use lib.Dec.{ltb}
 use lib.ListN.{length, take, drop, length-drop, drop_of_length-le}
 use Rattle.view.specs.Logic.{pick}
 use Rattle.view.proofs.Laws.{by_test}
 use Rattle.sheet.specs.Lines.{is_feed, line_length, next_place}
 use Rattle.sheet.proofs.Laws.{line_within}
-use Rattle.print.specs.Page.{Page, typed}
-use Rattle.print.proofs.Laws.{nothing_typed}
-use Rattle.class.specs.Names.{first_line, has_feed, Gathers}
+use Rattle.print.specs.declared.Page.{Page}
+use Rattle.print.specs.Page.{typed_on}
+use Rattle.print.proofs.Typing.{typed_on_nil}
+use Rattle.class.specs.Names.{first_line, has_feed, after_feed, Gathers}
 
 -- ---- one chunk
 -- the line at a place within the chunk
@@ -39,28 +42,24 @@ met (x ∷ l) = by (is_feed x) (met l)
     by false e = same_order (suc (line_length l)) (suc (length l)) (line_length l) (length l) (λ h. omega arith) (λ h. omega arith) ∙ e
 
 pub taken_up_to : (s : List ℕ) (at next : ℕ) (before after : Page) → at < length s → next ≡ next_place s at
-    → after ≡ typed before (take (next - 1 - at) (drop at s)) → Gathers s at before after next (ltb (next - 1) (length s))
-unfolding first_line
+    → after ≡ typed_on before (take (next - 1 - at) (drop at s)) → Gathers s at before after (then_some (ltb (next - 1) (length s)) next)
+unfolding first_line after_feed
 taken_up_to s at next before after h e t =
     let here : Here s at next = line_here s at next h e in
     let end : next - 1 ≡ at + line_length (drop at s) = omega (arith, here.after) in
     let long : next - 1 - at ≡ line_length (drop at s) = omega arith in
-    record {
-      name = t ∙ rw long;
-      place = e;
-      told =
-          same_order (next - 1) (length s) (line_length (drop at s)) (length (drop at s)) (λ l. omega (arith, length-drop at s)) (λ l. omega (arith, length-drop at s))
-          ∙ met (drop at s);
-    }
+    let told : ltb (next - 1) (length s) ≡ has_feed (drop at s) =
+    same_order (next - 1) (length s) (line_length (drop at s)) (length (drop at s)) (λ l. omega (arith, length-drop at s)) (λ l. omega (arith, length-drop at s))
+    ∙ met (drop at s) in
+    record { name = t ∙ rw long; place = rw (told, e) }
 
 -- past the end of the chunk nothing is taken
-pub none_taken : (s : List ℕ) (at : ℕ) (p : Page) → length s ≤ at → Gathers s at p p at false
-unfolding first_line has_feed next_place line_length pick
+pub none_taken : (s : List ℕ) (at : ℕ) (p : Page) → length s ≤ at → Gathers s at p p None
+unfolding first_line has_feed after_feed line_length pick
 none_taken s at p h =
     record {
-      name = rw (drop_of_length-le s h) (nothing_typed p);
-      place = rw (le-ltb at (length s) h);
-      told = rw (drop_of_length-le s h);
+      name = rw (drop_of_length-le s h) (sym (typed_on_nil p));
+      place = rw (drop_of_length-le s h);
     }
 
 -- ---- two chunks: what the first lacks comes from the second

@@ -1,7 +1,8 @@
 -- A class of sheets. Document 02, S-7: "a sheet that cannot be opened or read (`unopened`) or is too long is named as such and adds nothing. It
 -- prints, per sheet and in all, messages sent, taken, waiting, and lost to a stop". Document 01, "Tally": "per sheet `NAME sent A taken B waiting
 -- C lost D share E/F`, `NAME unopened` or `NAME long`; at the end `all` for a name."
-use Rattle.std.specs.Prelude.{ℕ, ◌≤◌, ◌≡◌, Bool, List, [], ◌∷◌, ◌++◌, ltb, length, take, drop}
+use Rattle.std.specs.Prelude.{ℕ, List, [], ◌∷◌, ◌++◌, ltb, length, take, Option, Some, None, Result, Ok, Err}
+use Rattle.std.specs.Borrow.{Bor}
 use Prim.Native.String.{String}
 use Rattle.view.specs.Logic.{pick}
 use Rattle.tallies.specs.declared.Tally.{Tally}
@@ -10,8 +11,12 @@ use Rattle.tallies.specs.Tally.{no_tally, plus, capped}
 use Rattle.tallies.specs.Share.{share_of}
 use Rattle.print.specs.Text.{bytes, decimal}
 use Rattle.run.specs.Output.{sheet_tally}
-use Rattle.class.specs.declared.Finding.{Finding}
-use Rattle.class.specs.declared.Finding.TheVariants.{Unopened, TooLong, Counted}
+use Rattle.class.specs.declared.Uncounted.{Uncounted}
+use Rattle.class.specs.declared.Uncounted.TheVariants.{Unopened, TooLong}
+
+-- what came of a name: what its sheet counts, or why it counts nothing
+abbrev pub Finding : Type 0
+Finding = Result Tally Uncounted
 
 -- ---- a line
 -- a word and a number
@@ -33,46 +38,45 @@ counts_text t =
 
 -- what stands after the name
 unfoldable pub finding_text : Finding → List ℕ
-finding_text Unopened = bytes " unopened"
-finding_text TooLong = bytes " long"
-finding_text (Counted t) = counts_text t
+finding_text (Ok t) = counts_text t
+finding_text (Err Unopened) = bytes " unopened"
+finding_text (Err TooLong) = bytes " long"
 
 -- "a name over 255 bytes is unopened, its first 255 printed"
 unfoldable pub name_line : List ℕ → Finding → List ℕ
 name_line name finding = take 255 name ++ finding_text finding ++ bytes "\n"
 
--- the text is the first bytes of a buffer of 412, as many as the count says, and the others are as they were
-pub record StandsFirst (text : List ℕ) (count : ℕ) (before after : List ℕ) : Type 0 where
-  pub counted : count ≡ length text
-  pub printed : after ≡ text ++ drop count before
-  pub room : count ≤ 412
-
 -- ---- what came of a name
--- a name, whether its sheet was opened and read, and what was read
+-- a name, and what was read of its sheet, where that was opened and read
 pub record Named : Type 0 where
   pub name : List ℕ
-  pub was_read : Bool
-  pub sheet : List ℕ
+  pub sheet : Option (List ℕ)
 
-abbrev pub named : List ℕ → Bool → List ℕ → Named
-named name was_read sheet = record { name = name; was_read = was_read; sheet = sheet }
+abbrev pub bytes_read : Option (Bor (List ℕ)) → Option (List ℕ)
+bytes_read None = None
+bytes_read (Some s) = Some s.now
 
--- "a name over 255 bytes is unopened"; a sheet of more than 60,000 bytes is a long one
+abbrev pub named : List ℕ → Option (Bor (List ℕ)) → Named
+named name sheet = record { name = name; sheet = bytes_read sheet }
+
+-- a sheet of more than 60,000 bytes is a long one
+unfoldable pub counted : Option (List ℕ) → Finding
+counted None = Err Unopened
+counted (Some sheet) = pick (ltb 60000 (length sheet)) (Err TooLong) (Ok (sheet_tally sheet))
+
+-- "a name over 255 bytes is unopened"
 unfoldable pub finding_of : Named → Finding
-finding_of x =
-    pick (ltb 255 (length x.name)) Unopened
-    (pick x.was_read (pick (ltb 60000 (length x.sheet)) TooLong (Counted (sheet_tally x.sheet))) Unopened)
+finding_of x = pick (ltb 255 (length x.name)) (Err Unopened) (counted x.sheet)
 
 -- "adds nothing"
 unfoldable pub adds_of : Finding → Tally
-adds_of Unopened = no_tally
-adds_of TooLong = no_tally
-adds_of (Counted t) = t
+adds_of (Ok t) = t
+adds_of (Err why) = no_tally
 
 -- ---- the class
 -- "at the end `all` for a name"
 unfoldable pub all_line : Tally → List ℕ
-all_line total = name_line (bytes "all") (Counted total)
+all_line total = name_line (bytes "all") (Ok total)
 
 unfoldable pub each_line : List Named → List ℕ
 each_line [] = []

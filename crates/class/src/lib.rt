@@ -1,136 +1,130 @@
 // What is printed for the sheets of a class: a line for each name, and one for all of them together.
-#![tactic(auto)]
+#![tactic(auto, using(print::proofs::Typing::typing, std::proofs::lemmas::List::take_min), unfolding(print::specs::Text::bytes, crate::specs::Class::share_text, crate::specs::Class::counts_text, crate::specs::Class::finding_text, crate::specs::Class::name_line, crate::specs::Class::adds_of, crate::specs::Class::all_line))]
 
 ghost use Rattle.std.specs.Prelude.{◌≡◌, ◌++◌, length, take};
 ghost use Rattle.tallies.specs.Share.{share_of};
 ghost use Rattle.print.specs.Text.{decimal};
-ghost use Rattle.print.specs.Page.{page, typed};
+ghost use Rattle.print.specs.Page.{typed_on, StandsFirst};
 ghost use Rattle.run.specs.Output.{sheet_tally};
-ghost use Rattle.class.specs.Class.{share_text, counts_text, finding_text, name_line, StandsFirst, named, finding_of, adds_of, lined, all_line};
+ghost use Rattle.class.specs.Class.{share_text, counts_text, finding_text, name_line, named, finding_of, adds_of, lined, all_line};
 
 pub mod names;
 
-use print::{put_decimal, put_text};
+use print::Page;
 use run::{SHEET_LIMIT, tally_sheet};
+use tallies::Tally;
 use tallies::share::share_of;
-use tallies::{Tally, added};
 
 // A name of more bytes is not tried, and printed no further.
 pub const NAME_LIMIT: usize = 255;
 
-// What came of a name: its sheet could not be opened or read, or is a long one, or was counted.
+// The bytes of the longest line.
+pub const LINE_LIMIT: usize = 412;
+
+// Why a sheet counts nothing: it could not be opened or read, or it is a long one.
 #[derive(Clone, Copy)]
-pub enum Finding {
+pub enum Uncounted {
     Unopened,
     TooLong,
-    Counted(Tally),
 }
 
 // A word and a number.
-fn put_labelled(out: &mut [u8], at: usize, word: &[u8], k: u64) -> usize
-    ensures { page out.new result ≡ typed (page out.old at) (word.now ++ decimal k) }
+fn put_labelled(page: &mut Page, word: &[u8], k: u64)
+    ensures { page.new ≡ typed_on page.old (word.now ++ decimal k) }
 {
-    let a = put_text(out, at, word);
-    put_decimal(out, a, k as usize)
+    page.text(word);
+    page.decimal(k as usize);
 }
 
-fn put_share(out: &mut [u8], at: usize, t: Tally) -> usize
-    ensures { page out.new result ≡ typed (page out.old at) (share_text (share_of t)) }
+fn put_share(page: &mut Page, t: Tally)
+    ensures { page.new ≡ typed_on page.old (share_text (share_of t)) }
 {
     let s = share_of(t);
-    let a = put_labelled(out, at, b" share ", s.committed);
-    put_labelled(out, a, b"/", s.proposals)
+    put_labelled(page, b" share ", s.committed);
+    put_labelled(page, b"/", s.proposals);
 }
 
-fn put_counts(out: &mut [u8], at: usize, t: Tally) -> usize
-    ensures { page out.new result ≡ typed (page out.old at) (counts_text t) }
+fn put_counts(page: &mut Page, t: Tally)
+    ensures { page.new ≡ typed_on page.old (counts_text t) }
 {
-    let a = put_labelled(out, at, b" sent ", t.sent);
-    let b = put_labelled(out, a, b" taken ", t.taken);
-    let c = put_labelled(out, b, b" waiting ", t.waiting);
-    let d = put_labelled(out, c, b" lost ", t.lost);
-    put_share(out, d, t)
+    put_labelled(page, b" sent ", t.sent);
+    put_labelled(page, b" taken ", t.taken);
+    put_labelled(page, b" waiting ", t.waiting);
+    put_labelled(page, b" lost ", t.lost);
+    put_share(page, t);
 }
 
-fn put_finding(out: &mut [u8], at: usize, finding: Finding) -> usize
-    ensures { page out.new result ≡ typed (page out.old at) (finding_text finding) }
+fn put_finding(page: &mut Page, finding: Result<Tally, Uncounted>)
+    ensures { page.new ≡ typed_on page.old (finding_text finding) }
 {
     match finding {
-        Finding::Unopened => put_text(out, at, b" unopened"),
-        Finding::TooLong => put_text(out, at, b" long"),
-        Finding::Counted(t) => put_counts(out, at, t),
+        Ok(t) => put_counts(page, t),
+        Err(Uncounted::Unopened) => page.text(b" unopened"),
+        Err(Uncounted::TooLong) => page.text(b" long"),
     }
 }
 
 // The first bytes of a name.
-fn put_name(out: &mut [u8], at: usize, name: &[u8]) -> usize
-    ensures { page out.new result ≡ typed (page out.old at) (take 255 name.now) }
+fn put_name(page: &mut Page, name: &[u8])
+    ensures { page.new ≡ typed_on page.old (take 255 name.now) }
 {
-    let limit = NAME_LIMIT;
-    if limit < name.len() {
-        put_text(out, at, &name[..limit])
-    } else {
-        put_text(out, at, name)
-    }
+    page.text(&name[..NAME_LIMIT.min(name.len())]);
 }
 
-fn put_line(out: &mut [u8], name: &[u8], finding: Finding) -> usize
-    ensures { page out.new result ≡ typed (page out.old 0) (name_line name.now finding) }
+fn put_line(page: &mut Page, name: &[u8], finding: Result<Tally, Uncounted>)
+    ensures { page.new ≡ typed_on page.old (name_line name.now finding) }
 {
-    let a = put_name(out, 0, name);
-    let b = put_finding(out, a, finding);
-    put_text(out, b, b"\n")
+    put_name(page, name);
+    put_finding(page, finding);
+    page.byte(b'\n');
 }
 
 // Room for the line of a name.
-pub fn line_buffer() -> [u8; 412]
-    ensures { length result ≡ 412 }
+pub fn line_buffer() -> [u8; LINE_LIMIT]
+    ensures { length result ≡ LINE_LIMIT }
 {
-    [0; 412]
+    [0; LINE_LIMIT]
 }
 
 // The line of a name, printed into a buffer that has room for it: it is the buffer's first bytes, as
 // many as the answer says, and the others stay.
-fn print_line(name: &[u8], finding: Finding, out: &mut [u8; 412]) -> usize
-    ensures { StandsFirst (name_line name.now finding) result out.old out.new }
+fn print_line(name: &[u8], finding: Result<Tally, Uncounted>, out: &mut [u8; LINE_LIMIT]) -> usize
+    ensures { StandsFirst LINE_LIMIT (name_line name.now finding) result out.old out.new }
 {
-    put_line(out, name, finding)
+    let mut page = Page::new(out, 0);
+    put_line(&mut page, name, finding);
+    page.place()
 }
 
 // What a name adds to the class.
-fn adds(finding: Finding) -> Tally
+fn adds(finding: Result<Tally, Uncounted>) -> Tally
     ensures { result ≡ adds_of finding }
 {
-    match finding {
-        Finding::Unopened => tallies::none(),
-        Finding::TooLong => tallies::none(),
-        Finding::Counted(t) => t,
-    }
+    finding.unwrap_or_default()
 }
 
 // What a sheet counts: it is run with no room for what it prints.
 fn sheet_tally(sheet: &[u8]) -> Tally
     ensures { result ≡ sheet_tally sheet.now }
 {
-    let mut nowhere: [u8; 0] = [];
-    let run = tally_sheet(sheet, &mut nowhere);
-    run.tally
+    tally_sheet(sheet, &mut []).tally
 }
 
-// What came of a name, whose sheet was opened and read, or was not.
-pub fn find(name: &[u8], opened: bool, sheet: &[u8]) -> Finding
-    ensures { result ≡ finding_of (named name.now opened sheet.now) }
+// What came of a name, and of its sheet, where that was opened and read.
+#[tactic(auto, unfolding(view::specs::Logic::pick, crate::specs::Class::counted, crate::specs::Class::finding_of))]
+pub fn find(name: &[u8], sheet: Option<&[u8]>) -> Result<Tally, Uncounted>
+    ensures { result ≡ finding_of (named name.now sheet.entry) }
 {
     if NAME_LIMIT < name.len() {
-        return Finding::Unopened;
+        return Err(Uncounted::Unopened);
     }
-    if opened {
-        if SHEET_LIMIT < sheet.len() {
-            return Finding::TooLong;
-        }
-        return Finding::Counted(sheet_tally(sheet));
+    let Some(sheet) = sheet else {
+        return Err(Uncounted::Unopened);
+    };
+    if SHEET_LIMIT < sheet.len() {
+        return Err(Uncounted::TooLong);
     }
-    Finding::Unopened
+    Ok(sheet_tally(sheet))
 }
 
 // How long the line of a name is, and the class's tally after it.
@@ -144,21 +138,22 @@ pub struct ClassLine {
 pub fn print_name(
     total: Tally,
     name: &[u8],
-    opened: bool,
-    sheet: &[u8],
-    out: &mut [u8; 412],
+    sheet: Option<&[u8]>,
+    out: &mut [u8; LINE_LIMIT],
 ) -> ClassLine
-    ensures { (StandsFirst (lined total (named name.now opened sheet.now)).text result.end out.old out.new) × (result.total ≡ (lined total (named name.now opened sheet.now)).total) }
+    ensures line { StandsFirst LINE_LIMIT (lined total (named name.now sheet.entry)).text result.end out.old out.new }
+    ensures total { result.total ≡ (lined total (named name.now sheet.entry)).total }
 {
-    let finding = find(name, opened, sheet);
-    let after = added(total, adds(finding));
-    let end = print_line(name, finding, out);
-    ClassLine { end, total: after }
+    let finding = find(name, sheet);
+    ClassLine {
+        end: print_line(name, finding, out),
+        total: total + adds(finding),
+    }
 }
 
 // The last line, for all names together.
-pub fn print_all(total: Tally, out: &mut [u8; 412]) -> usize
-    ensures { StandsFirst (all_line total) result out.old out.new }
+pub fn print_all(total: Tally, out: &mut [u8; LINE_LIMIT]) -> usize
+    ensures { StandsFirst LINE_LIMIT (all_line total) result out.old out.new }
 {
-    print_line(b"all", Finding::Counted(total), out)
+    print_line(b"all", Ok(total), out)
 }

@@ -7,17 +7,22 @@ use native.Mathlib.Omega.{arith}
 use native.Mathlib.Nat.{mul-le-mul_right, suc-mul, pow-suc, pow-le-pow_right}
 use native.Mathlib.Numerals.{add-one, sub-one}
 use lib.Dec.{eqb}
+use Rattle.std.specs.Prelude.{Result, Ok, Err}
+use Rattle.std.specs.Result.{is_ok}
 use lib.ListN.{length, length-append, length-map}
 use Rattle.view.specs.Logic.{pick, is_one_of}
 use Rattle.view.specs.View.{everyone}
 use Rattle.view.proofs.Laws.{by_pick}
 use Rattle.system.specs.declared.System.{System}
-use Rattle.system.specs.declared.Outcome.{Outcome}
+use Rattle.system.specs.declared.refusal.Refusal.{Refusal}
+use Rattle.system.specs.Refusal.{answer_number}
+use Rattle.system.specs.Outcome.{Outcome}
 use Rattle.sound.specs.Sound.{sound_system}
 use Rattle.plan.specs.declared.Action.{Action}
 use Rattle.plan.specs.Cut.{whole}
 use Rattle.step.specs.Step.{stepped}
 use Rattle.image.specs.Image.{image_width, system_in}
+use Rattle.alternatives.proofs.Carrying.{some_number}
 use Rattle.engine.specs.Engine.{Attempts}
 use Rattle.orders.specs.declared.RunCounts.{RunCounts}
 use Rattle.orders.specs.Orders.{link_moves, process_moves, Choice, pass, make, Run, ended_at, begun_with, begun_by, by_moves, turned, link_turn, process_turn, goes_beyond, entered_among, run_counts_of}
@@ -25,16 +30,20 @@ use Rattle.orders.specs.Walks.{link_move_at, process_move_at, Walks, Tries}
 use Rattle.orders.proofs.Moves.{numbered, places_length, link_places, process_places, few_link_moves, few_process_moves}
 
 -- ---- one move on a copy
-pub tried_move : (o : Action) (b c d : List ℕ) (k : ℕ) → sound_system (system_in b) ≡ true → c ≡ b → Attempts (whole o) c k d
-    → Tries o (system_in b) (eqb k 0) d
-tried_move o b c d k sound same a =
+pub tried_move : (o : Action) (b c d : List ℕ) (r : Result (Unit {0}) Refusal) (t : Bool) → sound_system (system_in b) ≡ true → c ≡ b
+    → Attempts (whole o) c (answer_number r) d → t ≡ is_ok r → Tries o (system_in b) t d
+tried_move o b c d r t sound same a told =
     let e : sound_system (system_in c) ≡ true = rw same sound in
-    let out : record { refusal = k; system = system_in d } ≡ stepped (system_in b) (whole o) = (a.steps e).outcome ∙ ap (λ (l : List ℕ). stepped (system_in l) (whole o)) same in
+    let out : record { refusal = answer_number r; system = system_in d } ≡ stepped (system_in b) (whole o) = (a.steps e).outcome ∙ ap (λ (l : List ℕ). stepped (system_in l) (whole o)) same in
     record {
-      answer = ap (λ (x : Outcome). eqb x.refusal 0) out;
+      answer = told ∙ done r ∙ ap (λ (x : Outcome). eqb x.refusal 0) out;
       system = ap (λ (x : Outcome). x.system) out;
       stays = a.stays e;
     }
+  where
+    done : (x : Result (Unit {0}) Refusal) → is_ok x ≡ eqb (answer_number x) 0
+    done (Ok u) = refl
+    done (Err k) = sym (some_number k)
 
 -- ---- the two counts
 pub entered_append : (n : ℕ) (a b : List Run) → entered_among n (a ++ b) ≡ entered_among n a + entered_among n b

@@ -2,12 +2,14 @@
 -- first. The link may report any allowed view at one unit, stop one, or pass. Then the units may take one message, answer once, or pass,
 -- and the turn goes back. Refused moves are not choices; cuts, and later returns and sets, are left out. Print the number of runs of
 -- exactly that depth, and how many end with an entry beyond position 1."
-use Rattle.std.specs.Prelude.{ℕ, zero, suc, ◌+◌, Bool, ◌&&◌, ◌||◌, not, List, [], ◌∷◌, ◌++◌, map, eqb, leb, length}
+use Rattle.std.specs.Prelude.{ℕ, zero, suc, ◌+◌, Bool, ◌&&◌, ◌||◌, not, List, [], ◌∷◌, ◌++◌, Result, Ok, Err, map, eqb, leb, length}
 use Rattle.view.specs.declared.ProcessId.{ProcessId}
 use Rattle.view.specs.Logic.{pick, unless, all_up_to, each_up_to, is_one_of}
 use Rattle.view.specs.View.{everyone}
 use Rattle.system.specs.declared.System.{System}
-use Rattle.system.specs.declared.Outcome.{Outcome}
+use Rattle.system.specs.declared.refusal.Refusal.{Refusal}
+use Rattle.system.specs.declared.refusal.Refusal.TheVariants.{Stranger, TooDeep}
+use Rattle.system.specs.Outcome.{Outcome}
 use Rattle.system.specs.Process.{is_written}
 use Rattle.system.specs.System.{entry_in}
 use Rattle.system.specs.Fresh.{fresh_system}
@@ -16,7 +18,6 @@ use Rattle.plan.specs.declared.Action.TheVariants.{Report, Receive, Respond, Cra
 use Rattle.plan.specs.Cut.{whole}
 use Rattle.step.specs.Step.{stepped}
 use Rattle.orders.specs.declared.RunCounts.{RunCounts}
-use Rattle.orders.specs.declared.Walked.{Walked}
 
 abbrev pub process : ℕ → ProcessId
 process k = record { 0 = k }
@@ -114,15 +115,9 @@ unfoldable pub run_counts_of : ℕ → List Run → RunCounts
 run_counts_of n rs = record { runs = length rs; entered = entered_among n rs }
 
 -- ---- the answer
-abbrev pub no_walk : ℕ → Walked
-no_walk k = record { refusal = k; runs = 0; entered = 0 }
-
-abbrev pub walked_to : RunCounts → Walked
-walked_to e = record { refusal = 0; runs = e.runs; entered = e.entered }
-
 -- Refusal 2, "a fresh table is wanted of a wrong size"; "14 too deep, for depth above 8 or more than 2 units, after 2"
-unfoldable pub walked : ℕ → ℕ → Walked
+unfoldable pub walked : ℕ → ℕ → Result RunCounts Refusal
 walked n depth =
-    unless (is_one_of 8 n) (no_walk 2)
-    (unless (leb n 2 && leb depth 8) (no_walk 14)
-    (walked_to (run_counts_of n (link_turn depth n (fresh_system n)))))
+    unless (is_one_of 8 n) (Err Stranger)
+    (unless (leb n 2 && leb depth 8) (Err TooDeep)
+    (Ok (run_counts_of n (link_turn depth n (fresh_system n)))))

@@ -1,52 +1,36 @@
 -- Laws of typing on a page, and of numbers and views as texts.
-use Prim.Native.Nat.{ℕ, zero, suc, ◌+◌, ◌-◌, ◌≤◌, ◌<◌, ◌/◌, ◌%◌}
+use Prim.Native.Nat.{ℕ, suc, ◌+◌, ◌≤◌, ◌<◌, ◌^◌}
 use mathlib.Core.Path.{◌≡◌, refl, sym, ◌∙◌, ap}
 use mathlib.Core.Bool.{Bool, true, false}
 use mathlib.Core.List.{List, [], ◌∷◌, ◌++◌}
 use native.Mathlib.Omega.{arith}
 use native.Mathlib.Nat.{add-zero, zero-add, add-suc, suc-add}
-use native.Mathlib.Numerals.{add-one, sub-one}
+use native.Mathlib.Numerals.{add-one}
 use borrow.Author.Tests.{lt-ltb, le-ltb, ltb-true}
 use lib.Dec.{ltb}
-use lib.ListN.{length, get_or, take, drop, set, length-set}
-use lib.Seq.{take-suc, sets, sets-eq, take-append_seam}
+use lib.ListN.{length, take, drop, set, length-set}
+use lib.Seq.{sets, sets-eq}
+use Rattle.std.specs.Fmt.{decimal as machine_decimal}
+use Rattle.std.proofs.lemmas.Fmt.{AppendsLastDigit, decimal_from_appends, length-decimal-le}
 use Rattle.view.specs.Logic.{pick, is_one_of}
 use Rattle.view.proofs.Laws.{and_left, one_of}
 use Rattle.view.specs.View.{has}
-use Rattle.print.specs.Text.{text_up_to, digit, digits}
-use Rattle.print.specs.Page.{Page, page, typed_byte, typed}
+use Rattle.print.specs.Text.{digits, decimal}
+use Rattle.print.specs.Page.{Page, page, typed_byte, typed, StandsFirst}
 
 -- ---- one byte
-pub one_byte_lem : (b : List ℕ) (n x : ℕ) → n < length b → page (set b n x) (n + 1) ≡ typed (page b n) (x ∷ [])
-unfolding typed typed_byte pick
-one_byte_lem b n x h = rw (lt-ltb n (length b) h)
-
 pub no_room : (b : List ℕ) (n x : ℕ) → length b ≤ n → page b n ≡ typed (page b n) (x ∷ [])
 unfolding typed typed_byte pick
 no_room b n x h = rw (le-ltb n (length b) h)
 
 -- ---- texts in turn
-typed-append : (p : Page) (a b : List ℕ) → typed p (a ++ b) ≡ typed (typed p a) b
+pub typed-append : (p : Page) (a b : List ℕ) → typed p (a ++ b) ≡ typed (typed p a) b
 unfolding typed
 typed-append p [] b = refl
 typed-append p (x ∷ a) b = typed-append (typed_byte p x) a b
 
-pub nothing_typed : (p : Page) → p ≡ typed p []
-unfolding typed
-nothing_typed p = refl
-
 pub in_turn : (o p q : Page) (a b : List ℕ) → p ≡ typed o a → q ≡ typed p b → q ≡ typed o (a ++ b)
 in_turn o p q a b e f = rw (typed-append o a b, ← e) f
-
--- ---- texts in a loop
-pub byte_again : (o p q : Page) (l : List ℕ) (i : ℕ) → i < length l → p ≡ typed o (take i l) → q ≡ typed p (get_or l i 0 ∷ [])
-    → q ≡ typed o (take (i + 1) l)
-byte_again o p q l i h e f = rw (add-one, take-suc l i 0 h) (in_turn o p q _ _ e f)
-
-pub text_again : (o p q : Page) (i : ℕ) (f : ℕ → List ℕ) → p ≡ typed o (text_up_to i f) → q ≡ typed p (f (i + 1))
-    → q ≡ typed o (text_up_to (i + 1) f)
-unfolding text_up_to
-text_again o p q i f e g = rw add-one (in_turn o p q _ _ e (rw add-one at g))
 
 -- ---- the buffer keeps its length
 byte_keeps_length : (p : Page) (x : ℕ) → length (typed_byte p x).buffer ≡ length p.buffer
@@ -98,46 +82,34 @@ fits_in b n t h = sets_typed b n t h ∙ ap (λ (l : List ℕ). page l (n + leng
 
 -- a page typed from its start on, with room for the text in a buffer of m bytes: the text is the buffer's first bytes, and the others stay
 pub printed_whole : (b c t : List ℕ) (m n : ℕ) → length b ≡ m → length t ≤ m → page c n ≡ typed (page b 0) t
-    → (n ≡ length t) × (c ≡ t ++ drop n b) × (n ≤ m)
+    → StandsFirst m t n b c
 printed_whole b c t m n long room e =
     let all : page c n ≡ page (take 0 b ++ t ++ drop (0 + length t) b) (0 + length t) = e ∙ fits_in b 0 t (omega arith) in
-    let count : n ≡ length t = ap (λ (p : Page). p.place) all ∙ zero-add (length t) in (
-      count,
-      ap (λ (p : Page). p.buffer) all ∙ ap (λ (k : ℕ). t ++ drop k b) (zero-add (length t) ∙ sym count),
-      omega arith,
-    )
-
--- a page that was typed from its start on: as many bytes as the text has, and they are the text
-pub record Whole (t c : List ℕ) (n : ℕ) : Type 0 where
-  pub count : n ≡ length t
-  pub text : take n c ≡ t
-
-pub whole : (b c t : List ℕ) (n : ℕ) → length t ≤ length b → page c n ≡ typed (page b 0) t → Whole t c n
-whole b c t n h e = from (e ∙ fits_in b 0 t (omega arith))
-  where
-    from : page c n ≡ page (take 0 b ++ t ++ drop (0 + length t) b) (0 + length t) → Whole t c n
-    from f =
-        let count : n ≡ length t = ap (λ (p : Page). p.place) f ∙ zero-add (length t) in
-        let buffer : c ≡ t ++ drop (0 + length t) b = ap (λ (p : Page). p.buffer) f in
-        record { count = count; text = rw (count, buffer) (take-append_seam t _) }
-
--- ---- digits
-pub no_digits : (n k : ℕ) → n ≡ 0 → digits n k ≡ []
-unfolding digits
-no_digits n k e = rw e
-
-pub first_digit : (o q : Page) (n k : ℕ) → 0 < n → k < 10 → q ≡ typed o (digit (k % 10)) → q ≡ typed o (digits n k)
-unfolding digits pick
-first_digit o q zero k h l e = absurd (omega arith)
-first_digit o q (suc n) k h l e = let same : k % 10 ≡ k = omega arith in rw (lt-ltb k 10 l) (rw same at e)
-
-pub last_digit : (o p q : Page) (n k : ℕ) → 0 < n → 10 ≤ k → p ≡ typed o (digits (n - 1) (k / 10)) → q ≡ typed p (digit (k % 10))
-    → q ≡ typed o (digits n k)
-unfolding digits pick
-last_digit o p q zero k h l e f = absurd (omega arith)
-last_digit o p q (suc n) k h l e f = rw (le-ltb k 10 l) (in_turn o p q _ _ (rw sub-one at e) f)
+    let count : n ≡ length t = ap (λ (p : Page). p.place) all ∙ zero-add (length t) in
+    record {
+      counted = count;
+      printed = ap (λ (p : Page). p.buffer) all ∙ ap (λ (k : ℕ). t ++ drop k b) (zero-add (length t) ∙ sym count);
+      within = omega arith;
+    }
 
 -- ---- views
 pub small_member : (v k : ℕ) → has v k ≡ true → k ≤ 8
 unfolding has
 small_member v k e = (one_of 8 k (and_left (is_one_of 8 k) _ e)).1
+
+-- ---- the digits of a number of the machine are those that the library writes
+appends_last_digit : AppendsLastDigit digits
+unfolding digits pick
+appends_last_digit =
+    record {
+      one = λ k n h. rw (lt-ltb n 10 h);
+      more = λ k n h. rw (le-ltb n 10 h);
+    }
+
+pub one_digit : (k : ℕ) → k < 10 → decimal k ≡ (48 + k) ∷ []
+unfolding decimal digits pick
+one_digit k h = rw (lt-ltb k 10 h)
+
+pub same_decimal : (k : ℕ) → k < 2 ^ 64 → decimal k ≡ machine_decimal k
+unfolding decimal
+same_decimal k h = decimal_from_appends digits appends_last_digit 20 k h (length-decimal-le 20 k (omega arith) (omega arith) h)

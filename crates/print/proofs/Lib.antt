@@ -1,3 +1,4 @@
 pub mod Laws
+pub mod Typing
 pub mod Bounds
 pub mod Claims

@@ -1,217 +1,180 @@
-// What is printed: each function types a text from a place of a lent buffer on, and returns the
-// place after it. A byte for which there is no room is dropped.
-#![tactic(auto)]
+// What is printed: texts are typed on a page.
+#![tactic(auto, using(crate::proofs::Typing::typing), unfolding(view::specs::Logic::pick, crate::specs::Text::bytes, crate::specs::Print::numbered_line, crate::specs::Print::column_line, crate::specs::Print::entry_text, crate::specs::Print::unit_line))]
 
-ghost use Rattle.std.specs.Prelude.{◌≡◌, min, ◌%◌, [], ◌∷◌};
+ghost use Rattle.std.specs.Prelude.{◌≡◌, [], ◌∷◌, ◌++◌};
 ghost use Rattle.view.specs.Logic.{pick};
 ghost use Rattle.system.specs.System.{process_at};
 ghost use Rattle.image.specs.Image.{system_in};
-ghost use Rattle.print.specs.Text.{bytes, digit, digits, decimal, member_text, view_text};
-ghost use Rattle.print.specs.Page.{page, typed};
+ghost use Rattle.print.specs.Text.{bytes, decimal, member_text, view_text};
+ghost use Rattle.print.specs.Page.{page_from, typed_on};
 ghost use Rattle.print.specs.Print.{numbers, three_numbers, numbered_line, column_line, entry_text, history_text, unit_line, unit_lines};
 
 use image::{entry_at, size, variables_at};
+use itoa::Buffer;
 use view::{GroupIndex, ProcessId};
 
-pub fn put_byte(out: &mut [u8], at: usize, b: u8) -> usize
-    ensures { page out.new result ≡ typed (page out.old at) (b ∷ []) }
-{
-    if at < out.len() {
-        out[at] = b;
-        at + 1
-    } else {
-        at
+// A lent buffer, and the place in it where the next byte goes. A byte for which there is no room is dropped.
+// No `impl Model`: of a struct with one, its maker does not learn what the lent buffer holds in the end.
+#[derive(Drop)]
+pub struct Page<'a> {
+    buffer: &'a mut [u8],
+    place: usize,
+}
+
+// No `fmt::Write`: `write!` promises its text only where it answers `Ok`, and to print never fails.
+impl<'a> Page<'a> {
+    pub fn new(buffer: &'a mut [u8], place: usize) -> Page<'a>
+        ensures { result ≡ page_from buffer.entry place }
+    {
+        Page { buffer, place }
     }
-}
 
-pub fn put_text(out: &mut [u8], at: usize, text: &[u8]) -> usize
-    ensures { page out.new result ≡ typed (page out.old at) text.now }
-{
-    let mut next = at;
-    let mut i = 0;
-    while i < text.len() {
-        next = put_byte(out, next, text[i]);
-        i += 1;
+    pub fn place(&self) -> usize
+        ensures { result ≡ self.now.place }
+    {
+        self.place
     }
-    next
-}
 
-// The last digit of a number.
-fn put_digit(out: &mut [u8], at: usize, k: usize) -> usize
-    ensures { page out.new result ≡ typed (page out.old at) (digit (k % 10)) }
-{
-    put_byte(out, at, b'0' + (k % 10) as u8)
-}
-
-// The last n digits of a number.
-fn put_digits(out: &mut [u8], at: usize, n: u8, k: usize) -> usize
-    ensures { page out.new result ≡ typed (page out.old at) (digits n k) }
-{
-    if n == 0 {
-        at
-    } else if k < 10 {
-        put_digit(out, at, k)
-    } else {
-        let next = put_digits(out, at, n - 1, k / 10);
-        put_digit(out, next, k)
+    pub fn byte(&mut self, b: u8)
+        ensures { self.new ≡ typed_on self.old (b ∷ []) }
+    {
+        if self.place < self.buffer.len() {
+            self.buffer[self.place] = b;
+            self.place += 1;
+        }
     }
-}
 
-// A number in decimal. The last four digits are typed one by one: few numbers have more.
-pub fn put_decimal(out: &mut [u8], at: usize, k: usize) -> usize
-    ensures { page out.new result ≡ typed (page out.old at) (decimal k) }
-{
-    let tens = k / 10;
-    let hundreds = tens / 10;
-    let thousands = hundreds / 10;
-    if k < 10 {
-        put_digit(out, at, k)
-    } else if tens < 10 {
-        let a = put_digit(out, at, tens);
-        put_digit(out, a, k)
-    } else if hundreds < 10 {
-        let a = put_digit(out, at, hundreds);
-        let b = put_digit(out, a, tens);
-        put_digit(out, b, k)
-    } else if thousands < 10 {
-        let a = put_digit(out, at, thousands);
-        let b = put_digit(out, a, hundreds);
-        let c = put_digit(out, b, tens);
-        put_digit(out, c, k)
-    } else {
-        let a = put_digits(out, at, 16, thousands / 10);
-        let b = put_digit(out, a, thousands);
-        let c = put_digit(out, b, hundreds);
-        let d = put_digit(out, c, tens);
-        put_digit(out, d, k)
+    // Byte by byte: for texts as short as these `copy_from_slice` takes half as long again.
+    pub fn text(&mut self, text: &[u8])
+        ensures { self.new ≡ typed_on self.old text.now }
+    {
+        for b in text {
+            self.byte(*b);
+        }
     }
-}
 
-// The digit of a process, if the view names it.
-fn put_member(out: &mut [u8], at: usize, view: u8, p: ProcessId) -> usize
-    ensures { page out.new result ≡ typed (page out.old at) (member_text view p.0) }
-{
-    if view::has(view, p) {
-        put_byte(out, at, b'0' + p.0)
-    } else {
-        at
+    // A number in decimal. Most have one digit, for which the library takes longer.
+    pub fn decimal(&mut self, k: usize)
+        ensures { self.new ≡ typed_on self.old (decimal k) }
+    {
+        if k < 10 {
+            self.byte(b'0' + k as u8);
+        } else {
+            let mut digits = Buffer::new();
+            self.text(digits.format(k).as_bytes());
+        }
     }
-}
 
-// The digits of a view, rising.
-pub fn put_view(out: &mut [u8], at: usize, view: u8) -> usize
-    ensures { page out.new result ≡ typed (page out.old at) (view_text view) }
-{
-    let mut next = at;
-    let mut i: u8 = 0;
-    while i < 8 {
-        i += 1;
-        next = put_member(out, next, view, ProcessId(i));
+    // The digit of a process, if the view names it.
+    fn member(&mut self, view: u8, p: ProcessId)
+        ensures { self.new ≡ typed_on self.old (member_text view p.0) }
+    {
+        if view::has(view, p) {
+            self.byte(b'0' + p.0);
+        }
     }
-    next
-}
 
-// `position=view`, unless the view is empty.
-fn put_entry(out: &mut [u8], at: usize, i: GroupIndex, view: u8) -> usize
-    ensures { page out.new result ≡ typed (page out.old at) (entry_text i.0 view) }
-{
-    if view == 0 {
-        at
-    } else {
-        let a = put_text(out, at, b" ");
-        let b = put_decimal(out, a, i.0 as usize);
-        let c = put_text(out, b, b"=");
-        put_view(out, c, view)
+    // The digits of a view, rising.
+    pub fn view(&mut self, view: u8)
+        ensures { self.new ≡ typed_on self.old (view_text view) }
+    {
+        for k in 1..=8 {
+            self.member(view, ProcessId(k));
+        }
     }
-}
 
-// Every position of a process's history that is not empty.
-fn put_history(out: &mut [u8], at: usize, image: &[u8], p: ProcessId) -> usize
-    ensures { page out.new result ≡ typed (page out.old at) (history_text (process_at (system_in image.now) p.0).history) }
-{
-    let mut next = at;
-    let mut i: u8 = 0;
-    while i < 32 {
-        i += 1;
-        next = put_entry(out, next, GroupIndex(i), entry_at(image, p, GroupIndex(i)));
+    // `position=view`, unless the view is empty.
+    fn entry(&mut self, i: GroupIndex, view: u8)
+        ensures { self.new ≡ typed_on self.old (entry_text i.0 view) }
+    {
+        if view != 0 {
+            self.spaced(i.0 as usize);
+            self.byte(b'=');
+            self.view(view);
+        }
     }
-    next
-}
 
-fn put_state(out: &mut [u8], at: usize, crashed: bool) -> usize
-    ensures { page out.new result ≡ typed (page out.old at) (pick crashed (bytes " stopped") (bytes " live")) }
-{
-    if crashed {
-        put_text(out, at, b" stopped")
-    } else {
-        put_text(out, at, b" live")
+    // Every position of a process's history that is not empty.
+    fn history(&mut self, image: &[u8], p: ProcessId)
+        ensures { self.new ≡ typed_on self.old (history_text (process_at (system_in image.now) p.0).history) }
+    {
+        for i in 1..=32 {
+            let i = GroupIndex(i);
+            self.entry(i, entry_at(image, p, i));
+        }
     }
-}
 
-// The line of one process.
-fn put_unit(out: &mut [u8], at: usize, image: &[u8], p: ProcessId) -> usize
-    ensures { page out.new result ≡ typed (page out.old at) (unit_line p.0 (process_at (system_in image.now) p.0)) }
-{
-    let x = variables_at(image, p);
-    let a = put_text(out, at, b"unit ");
-    let b = put_decimal(out, a, p.0 as usize);
-    let c = put_state(out, b, x.crashed);
-    let d = put_text(out, c, b" next ");
-    let e = put_decimal(out, d, x.next.0 as usize);
-    let f = put_history(out, e, image, p);
-    put_text(out, f, b"\n")
-}
-
-fn lesser(a: u8, b: u8) -> u8
-    ensures { result ≡ min a b }
-{
-    if a < b { a } else { b }
-}
-
-// The lines of all processes of the system that an image holds.
-pub fn put_units(out: &mut [u8], at: usize, image: &[u8]) -> usize
-    ensures { page out.new result ≡ typed (page out.old at) (unit_lines (system_in image.now)) }
-{
-    let n = lesser(8, size(image));
-    let mut next = at;
-    let mut i: u8 = 0;
-    while i < n {
-        i += 1;
-        next = put_unit(out, next, image, ProcessId(i));
+    fn state(&mut self, crashed: bool)
+        ensures { self.new ≡ typed_on self.old (pick crashed (bytes " stopped") (bytes " live")) }
+    {
+        if crashed {
+            self.text(b" stopped");
+        } else {
+            self.text(b" live");
+        }
     }
-    next
-}
 
-// A line's number in the sheet and its refusal number, with no line feed after them.
-fn put_numbers(out: &mut [u8], at: usize, line: usize, number: u8) -> usize
-    ensures { page out.new result ≡ typed (page out.old at) (numbers line number) }
-{
-    let a = put_decimal(out, at, line);
-    let b = put_text(out, a, b" ");
-    put_decimal(out, b, number as usize)
-}
+    // The line of one process.
+    fn unit(&mut self, image: &[u8], p: ProcessId)
+        ensures { self.new ≡ typed_on self.old (unit_line p.0 (process_at (system_in image.now) p.0)) }
+    {
+        let x = variables_at(image, p);
+        self.text(b"unit ");
+        self.decimal(p.0 as usize);
+        self.state(x.crashed);
+        self.text(b" next ");
+        self.decimal(x.next.0 as usize);
+        self.history(image, p);
+        self.text(b"\n");
+    }
 
-// A line's number in the sheet and its refusal number.
-pub fn put_numbered(out: &mut [u8], at: usize, line: usize, number: u8) -> usize
-    ensures { page out.new result ≡ typed (page out.old at) (numbered_line line number) }
-{
-    let a = put_numbers(out, at, line, number);
-    put_text(out, a, b"\n")
-}
+    // The lines of all processes of the system that an image holds.
+    pub fn units(&mut self, image: &[u8])
+        ensures { self.new ≡ typed_on self.old (unit_lines (system_in image.now)) }
+    {
+        let n = size(image).min(8);
+        for p in 1..=n {
+            self.unit(image, ProcessId(p));
+        }
+    }
 
-// The same with a third number after them, and no line feed.
-pub fn put_three_numbers(out: &mut [u8], at: usize, line: usize, number: u8, third: usize) -> usize
-    ensures { page out.new result ≡ typed (page out.old at) (three_numbers line number third) }
-{
-    let a = put_numbers(out, at, line, number);
-    let b = put_text(out, a, b" ");
-    put_decimal(out, b, third)
-}
+    // A space and a number.
+    fn spaced(&mut self, k: usize)
+        ensures { self.new ≡ typed_on self.old (bytes " " ++ decimal k) }
+    {
+        self.byte(b' ');
+        self.decimal(k);
+    }
 
-// The same with a column after them.
-pub fn put_column(out: &mut [u8], at: usize, line: usize, number: u8, column: usize) -> usize
-    ensures { page out.new result ≡ typed (page out.old at) (column_line line number column) }
-{
-    let a = put_three_numbers(out, at, line, number, column);
-    put_text(out, a, b"\n")
+    // A line's number in the sheet and its refusal number, with no line feed after them.
+    fn numbers(&mut self, line: usize, number: u8)
+        ensures { self.new ≡ typed_on self.old (numbers line number) }
+    {
+        self.decimal(line);
+        self.spaced(number as usize);
+    }
+
+    // A line's number in the sheet and its refusal number.
+    pub fn numbered(&mut self, line: usize, number: u8)
+        ensures { self.new ≡ typed_on self.old (numbered_line line number) }
+    {
+        self.numbers(line, number);
+        self.byte(b'\n');
+    }
+
+    // The same with a third number after them, and no line feed.
+    pub fn three_numbers(&mut self, line: usize, number: u8, third: usize)
+        ensures { self.new ≡ typed_on self.old (three_numbers line number third) }
+    {
+        self.numbers(line, number);
+        self.spaced(third);
+    }
+
+    // The same with a column after them.
+    pub fn column(&mut self, line: usize, number: u8, column: usize)
+        ensures { self.new ≡ typed_on self.old (column_line line number column) }
+    {
+        self.three_numbers(line, number, column);
+        self.byte(b'\n');
+    }
 }

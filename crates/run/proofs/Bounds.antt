@@ -22,10 +22,10 @@ use Rattle.settle.proofs.Within.{settled_steps, settled_number}
 use Rattle.print.specs.Text.{bytes}
 use Rattle.print.specs.Print.{three_numbers, column_line}
 use Rattle.print.proofs.Bounds.{numbered_length, three-length, column-length, units_length}
-use Rattle.sheet.specs.declared.parse.Opening.{Opening}
-use Rattle.sheet.specs.declared.parse.Opening.TheVariants.{Bad as BadFirst, Fresh}
+use Rattle.std.specs.Prelude.{Result, Ok, Err}
+use Rattle.sheet.specs.declared.parse.BadFrom.{BadFrom}
 use Rattle.sheet.specs.declared.parse.Line.{Line}
-use Rattle.sheet.specs.declared.parse.Line.TheVariants.{Bad, Step, Settle}
+use Rattle.sheet.specs.declared.parse.Line.TheVariants.{Step, Settle}
 use Rattle.sheet.specs.Lines.{lines_of}
 use Rattle.sheet.specs.Parse.{meaning_first, meaning, first_forms, later_forms, opened, parsed}
 use Rattle.sheet.proofs.Laws.{weight, few_bytes, few_lines}
@@ -79,16 +79,16 @@ settle_room k s hk =
       three-length 3 k o.refusal o.steps hk (omega (arith, settled_number 7936 s)) (omega (arith, settled_steps 7936 s)),
     ))
 
-settle_said : (l : List ℕ) → parsed l ≡ Settle → 0 < length l
+settle_said : (l : List ℕ) → parsed l ≡ Ok Settle → 0 < length l
 settle_said [] e = absurd (let z : ◌≡◌ {A = ℕ} 0 1 = cc (nothing_said [] refl) in omega arith)
 settle_said (b ∷ bs) e = omega arith
 
 -- ---- a line
-line_room : (k : ℕ) (s : System) (l : List ℕ) (x : Line) → parsed l ≡ x → k < 100000 → length l ≤ 60000 → length (line_done k s x).text ≤ suc (length l) * 10
+line_room : (k : ℕ) (s : System) (l : List ℕ) (x : Result Line BadFrom) → parsed l ≡ x → k < 100000 → length l ≤ 60000 → length (line_done k s x).text ≤ suc (length l) * 10
 unfolding line_done answered bad_line meaning at
-line_room k s l (Bad column) e hk hl = column_room k column (length l) hk hl (rw (bad_column l column e) (column_from_1 later_forms l).1)
-line_room k s l (Step o) e hk hl = omega (arith, numbered_length k (stepped s o).refusal hk (two_digits s o))
-line_room k s l Settle e hk hl = omega (arith, settle_room k s hk, settle_said l e)
+line_room k s l (Err bad) e hk hl = column_room k bad.0 (length l) hk hl (rw (bad_column l bad.0 e) (column_from_1 later_forms l).1)
+line_room k s l (Ok (Step o)) e hk hl = omega (arith, numbered_length k (stepped s o).refusal hk (two_digits s o))
+line_room k s l (Ok Settle) e hk hl = omega (arith, settle_room k s hk, settle_said l e)
 
 -- ---- line by line
 printed_length : (k : ℕ) (s : System) (ls : List (List ℕ)) → k + length ls < 100000 → weight ls ≤ 60001 → length (printed_from k s ls) ≤ weight ls * 10 + 3400
@@ -106,15 +106,15 @@ bad_length k (l ∷ ls) h =
     rw (length-append (column_line k 8 0) (bad_from (suc k) ls))
     (omega (arith, column-length 0 k 8 0 (omega arith) (omega arith) (omega arith), bad_length (suc k) ls (omega arith)))
 
-started_length : (l : List ℕ) (ls : List (List ℕ)) (x : Opening) → opened l ≡ x → suc (length l) + weight ls ≤ 60001 → length (started_by x ls) ≤ 603400
+started_length : (l : List ℕ) (ls : List (List ℕ)) (x : Result ℕ BadFrom) → opened l ≡ x → suc (length l) + weight ls ≤ 60001 → length (started_by x ls) ≤ 603400
 unfolding started_by bad_line meaning_first at
-started_length l ls (Fresh n) e w = omega (arith, few_lines ls, printed_length 2 (fresh_system n) ls (omega (arith, few_lines ls)) (omega arith))
-started_length l ls (BadFirst column) e w =
-    rw (length-append (column_line 1 8 column) (bad_from 2 ls))
+started_length l ls (Ok n) e w = omega (arith, few_lines ls, printed_length 2 (fresh_system n) ls (omega (arith, few_lines ls)) (omega arith))
+started_length l ls (Err bad) e w =
+    rw (length-append (column_line 1 8 bad.0) (bad_from 2 ls))
     (omega (
       arith,
       few_lines ls,
-      column_room 1 column (length l) (omega arith) (omega arith) (rw (bad_first_column l column e) (column_from_1 first_forms l).1),
+      column_room 1 bad.0 (length l) (omega arith) (omega arith) (rw (bad_first_column l bad.0 e) (column_from_1 first_forms l).1),
       bad_length 2 ls (omega (arith, few_lines ls)),
     ))
 

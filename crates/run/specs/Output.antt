@@ -3,25 +3,25 @@
 -- line number in the sheet, a space and the refusal number or 0. A bad first line and every line after it are printed the same
 -- way. Then for each unit, rising [its line]. With no table there are no unit lines; an empty sheet prints nothing. A long sheet
 -- prints the single line `0 9`." Document 02: "For a bad sheet line the program adds the column".
-use Rattle.std.specs.Prelude.{ℕ, suc, List, [], ◌∷◌, ◌++◌, ltb, length}
+use Rattle.std.specs.Prelude.{ℕ, suc, ◌≡◌, Bool, true, List, [], ◌∷◌, ◌++◌, ltb, length, Result, Ok, Err}
 use Rattle.view.specs.Logic.{pick, at}
 use Rattle.tallies.specs.declared.Tally.{Tally}
 use Rattle.tallies.specs.Tally.{no_tally, plus, capped}
 use Rattle.system.specs.declared.System.{System}
-use Rattle.system.specs.declared.Outcome.{Outcome}
+use Rattle.system.specs.Outcome.{Outcome}
 use Rattle.system.specs.Fresh.{fresh_system}
 use Rattle.step.specs.Step.{stepped, does}
 use Rattle.step.specs.Counts.{event_tally, still_waiting}
 use Rattle.settle.specs.declared.Ending.{Ending}
 use Rattle.settle.specs.declared.Ending.TheVariants.{Rest, Held, Budget}
-use Rattle.settle.specs.declared.Settled.{Settled}
-use Rattle.settle.specs.Settle.{settled, settled_tally}
+use Rattle.settle.specs.Settle.{Settled, settled, settled_tally}
 use Rattle.print.specs.Text.{bytes}
+use Rattle.print.specs.declared.Page.{Page}
+use Rattle.print.specs.Page.{typed_on}
 use Rattle.print.specs.Print.{three_numbers, numbered_line, column_line, unit_lines}
-use Rattle.sheet.specs.declared.parse.Opening.{Opening}
-use Rattle.sheet.specs.declared.parse.Opening.TheVariants.{Bad as BadFirst, Fresh}
+use Rattle.sheet.specs.declared.parse.BadFrom.{BadFrom}
 use Rattle.sheet.specs.declared.parse.Line.{Line}
-use Rattle.sheet.specs.declared.parse.Line.TheVariants.{Bad, Step, Settle}
+use Rattle.sheet.specs.declared.parse.Line.TheVariants.{Step, Settle}
 use Rattle.sheet.specs.Lines.{lines_of}
 use Rattle.sheet.specs.Parse.{Meaning, meaning_first, meaning, opened, parsed}
 
@@ -51,10 +51,16 @@ unfoldable pub settled_as : ℕ → Tally → Settled → Printed
 settled_as k t o = record { text = three_numbers k o.refusal o.steps ++ ending_text o.ending; system = o.system; tally = t }
 
 -- line k after a good first line: its step, a settling run, or 8 and the column
-unfoldable pub line_done : ℕ → System → Line → Printed
-line_done k s (Bad column) = record { text = bad_line k (meaning (Bad column)); system = s; tally = no_tally }
-line_done k s (Step o) = answered k (event_tally s (does o)) (stepped s o)
-line_done k s Settle = settled_as k (settled_tally 7936 s) (settled 7936 s)
+unfoldable pub line_done : ℕ → System → Result Line BadFrom → Printed
+line_done k s (Err bad) = record { text = bad_line k (meaning (Err bad)); system = s; tally = no_tally }
+line_done k s (Ok (Step o)) = answered k (event_tally s (does o)) (stepped s o)
+line_done k s (Ok Settle) = settled_as k (settled_tally 7936 s) (settled 7936 s)
+
+-- what the program does for a line: its text is typed, the system is as it says, and so is what it counts, where that is asked for
+pub record Done (counting : Bool) (x : Printed) (before after : Page) (s : System) (counted : Tally) : Type 0 where
+  pub text : after ≡ typed_on before x.text
+  pub system : s ≡ x.system
+  pub tally : counting ≡ true → counted ≡ x.tally
 
 -- a line, and what is printed after it
 unfoldable pub printed_then : Printed → (System → List ℕ) → List ℕ
@@ -71,9 +77,9 @@ bad_from k [] = []
 bad_from k (l ∷ ls) = column_line k 8 0 ++ bad_from (suc k) ls
 
 -- a good first line starts a fresh system; a bad one has its own column
-unfoldable pub started_by : Opening → List (List ℕ) → List ℕ
-started_by (Fresh n) ls = printed_from 2 (fresh_system n) ls
-started_by (BadFirst column) ls = bad_line 1 (meaning_first (BadFirst column)) ++ bad_from 2 ls
+unfoldable pub started_by : Result ℕ BadFrom → List (List ℕ) → List ℕ
+started_by (Ok n) ls = printed_from 2 (fresh_system n) ls
+started_by (Err bad) ls = bad_line 1 (meaning_first (Err bad)) ++ bad_from 2 ls
 
 unfoldable pub lines_output : List (List ℕ) → List ℕ
 lines_output [] = []
@@ -93,9 +99,9 @@ unfoldable pub tallied_from : ℕ → Tally → System → List (List ℕ) → T
 tallied_from k a s [] = capped (plus a (still_waiting s))
 tallied_from k a s (l ∷ ls) = tallied_then a (line_done k s (parsed l)) (λ b t. tallied_from (suc k) b t ls)
 
-unfoldable pub tallied_by : Opening → List (List ℕ) → Tally
-tallied_by (Fresh n) ls = tallied_from 2 no_tally (fresh_system n) ls
-tallied_by (BadFirst column) ls = no_tally
+unfoldable pub tallied_by : Result ℕ BadFrom → List (List ℕ) → Tally
+tallied_by (Ok n) ls = tallied_from 2 no_tally (fresh_system n) ls
+tallied_by (Err bad) ls = no_tally
 
 unfoldable pub lines_tally : List (List ℕ) → Tally
 lines_tally [] = no_tally

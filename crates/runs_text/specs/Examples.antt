@@ -1,5 +1,5 @@
 -- Worked inputs of the program `runs`, with what is printed for each; the counts of deeper walks are computed in crate exhaustive.
-use Rattle.std.specs.Prelude.{ℕ, List, [], ◌∷◌}
+use Rattle.std.specs.Prelude.{ℕ, List, [], ◌∷◌, Ok}
 use Prim.Native.String.{String}
 use Rattle.print.specs.Text.{bytes}
 use Rattle.runs_text.specs.RunsText.{walk_text, runs_output}
@@ -44,7 +44,7 @@ askings =
     ∷ "3 0" prints "14\n"
     ∷ "8 9\n" prints "14\n"
     -- two counts
-    ∷ (record { prints = walk_text (record { refusal = 0; runs = 36461; entered = 124 }); expected = "36461 124\n" })
+    ∷ (record { prints = walk_text (Ok (record { runs = 36461; entered = 124 })); expected = "36461 124\n" })
     ∷ []
 
 abbrev pub printed_for : Asking → List ℕ

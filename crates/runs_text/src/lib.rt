@@ -1,73 +1,49 @@
 // The input line of a walk, and what is printed for it.
-#![tactic(auto)]
+#![tactic(auto, using(print::proofs::Typing::typing), unfolding(view::specs::Logic::pick, print::specs::Text::bytes, crate::specs::RunsText::walk_text))]
 
-ghost use Rattle.std.specs.Prelude.{◌≤◌, ◌≡◌, ◌++◌, length, drop};
-ghost use Rattle.print.specs.Page.{page, typed};
-ghost use Rattle.sheet.specs.Grammar.{is_digit};
-ghost use Rattle.runs_text.specs.RunsText.{three_bytes, walk_for, walk_text, runs_output};
+ghost use Rattle.std.specs.Prelude.{◌≡◌};
+ghost use Rattle.print.specs.Page.{typed_on, StandsFirst};
+ghost use Rattle.runs_text.specs.RunsText.{walk_for, walk_text, runs_output};
 
-use orders::{Walked, count_runs};
-use print::{put_decimal, put_text};
-use system::refusal::BAD_LINE;
-use view::and;
+use orders::{RunCounts, count_runs};
+use print::Page;
+use system::refusal::Refusal;
 
-fn is_digit(b: u8) -> bool
-    ensures { result ≡ is_digit "0" "9" b }
-{
-    and(b'0' <= b, b <= b'9')
-}
-
-// One line of three bytes, with its line feed or without.
-fn three_bytes(input: &[u8]) -> bool
-    ensures { result ≡ three_bytes input.now }
-{
-    if input.len() == 3 {
-        true
-    } else if input.len() == 4 {
-        input[3] == b'\n'
-    } else {
-        false
-    }
-}
-
-// The walk that the line asks for.
-fn walk_for(input: &[u8]) -> Walked
+// The walk that the line asks for: N and DEPTH, one digit each, with a line feed or without.
+#[tactic(auto, unfolding(view::specs::Logic::pick, crate::specs::RunsText::three_bytes, crate::specs::RunsText::walk_for))]
+fn walk_for(input: &[u8]) -> Result<RunCounts, Refusal>
     ensures { result ≡ walk_for input.now }
 {
-    if three_bytes(input) {
-        let n = input[0];
-        let space = input[1];
-        let depth = input[2];
-        if and(and(is_digit(n), space == b' '), is_digit(depth)) {
-            return count_runs(n - b'0', depth - b'0');
+    match input {
+        [n, b' ', depth] | [n, b' ', depth, b'\n']
+            if n.is_ascii_digit() && depth.is_ascii_digit() => {
+            count_runs(*n - b'0', *depth - b'0')
         }
-    }
-    Walked {
-        refusal: BAD_LINE,
-        runs: 0,
-        entered: 0,
+        _ => Err(Refusal::BadLine),
     }
 }
 
 // The two counts, or the refusal number.
-fn put_walk(out: &mut [u8], w: Walked) -> usize
-    ensures { page out.new result ≡ typed (page out.old 0) (walk_text w) }
+fn put_walk(page: &mut Page, walk: Result<RunCounts, Refusal>)
+    ensures { page.new ≡ typed_on page.old (walk_text walk) }
 {
-    if w.refusal == 0 {
-        let a = put_decimal(out, 0, w.runs as usize);
-        let b = put_text(out, a, b" ");
-        let c = put_decimal(out, b, w.entered as usize);
-        put_text(out, c, b"\n")
-    } else {
-        let a = put_decimal(out, 0, w.refusal as usize);
-        put_text(out, a, b"\n")
+    match walk {
+        Ok(counts) => {
+            page.decimal(counts.runs as usize);
+            page.byte(b' ');
+            page.decimal(counts.entered as usize);
+        }
+        Err(refusal) => page.decimal(u8::from(refusal) as usize),
     }
+    page.byte(b'\n');
 }
 
 // What is printed for an input, into a buffer that has room for it: the buffer's first bytes, as many
 // as the answer says; the others stay.
 pub fn print_runs(input: &[u8], out: &mut [u8; 42]) -> usize
-    ensures { (result ≡ length (runs_output input.now)) × (out.new ≡ runs_output input.now ++ drop result out.old) × (result ≤ 42) }
+    ensures { StandsFirst 42 (runs_output input.now) result out.old out.new }
 {
-    put_walk(out, walk_for(input))
+    let mut page = Page::new(out, 0);
+    put_walk(&mut page, walk_for(input));
+    page.place()
 }

@@ -13,7 +13,9 @@ use lib.Seq.{take_all}
 use Rattle.view.specs.Logic.{pick}
 use Rattle.view.specs.View.{with}
 use Rattle.view.proofs.Laws.{true_is_not_false, or_left, or_right, by_pick}
-use Rattle.sheet.specs.Grammar.{Piece, byte, size, digit, view, more, Form, form, rises, value_of, when, passed, ended, onward, ends_as, followed, readings, some, allowed, begins, greatest, column, first_reading, read}
+use Rattle.std.specs.Prelude.{Result, Ok, Err}
+use Rattle.sheet.specs.declared.parse.BadFrom.{BadFrom}
+use Rattle.sheet.specs.Grammar.{Piece, byte, size, digit, view, more, Form, form, rises, value_of, when, passed, ended, onward, ends_as, followed, readings, some, allowed, begins, greatest, column, bad_from, first_reading, read}
 
 -- ---- two lists of forms, and two texts, one after the other
 flat_append : {X Y : Type 0} (f : X → List Y) (xs ys : List X) → flat_map f (xs ++ ys) ≡ flat_map f xs ++ flat_map f ys
@@ -180,35 +182,38 @@ unfolding column
 column_is xs l = ap (λ (k : ℕ). k + 1) (longest xs l)
 
 -- ---- a line read byte by byte: k bytes have been followed to these forms, and l is left
-unfoldable pub read_from : {A : Type 0} → (ℕ → A) → List (Form A) → ℕ → List ℕ → A
-read_from bad xs k l = first_reading (readings xs l) (bad (k + reached xs l + 1))
+abbrev pub bad : {A : Type 0} → ℕ → Result A BadFrom
+bad k = Err (bad_from k)
 
-module _ {A : Type 0} (bad : ℕ → A) (xs : List (Form A)) where
-  pub read_from_lem : (l : List ℕ) → read bad xs l ≡ read_from bad xs 0 l
+unfoldable pub read_from : {A : Type 0} → List (Form A) → ℕ → List ℕ → Result A BadFrom
+read_from xs k l = first_reading (readings xs l) (bad_from (k + reached xs l + 1))
+
+module _ {A : Type 0} (xs : List (Form A)) where
+  pub read_from_lem : (l : List ℕ) → read xs l ≡ read_from xs 0 l
   unfolding read read_from
   read_from_lem l = let e : column xs l ≡ 0 + reached xs l + 1 = omega (arith, column_is xs l) in rw e
 
-  pub goes_on : (k b : ℕ) (bs : List ℕ) (ys : List (Form A)) → flat_map (onward b) xs ≡ ys → some ys ≡ true → read_from bad xs k (b ∷ bs) ≡ read_from bad ys (suc k) bs
+  pub goes_on : (k b : ℕ) (bs : List ℕ) (ys : List (Form A)) → flat_map (onward b) xs ≡ ys → some ys ≡ true → read_from xs k (b ∷ bs) ≡ read_from ys (suc k) bs
   unfolding read_from readings reached followed pick
   goes_on k b bs ys is e = let s : k + suc (reached ys bs) + 1 ≡ suc k + reached ys bs + 1 = omega arith in rw (is, e, s)
 
-  pub is_stuck : (k b : ℕ) (bs : List ℕ) → flat_map (onward b) xs ≡ [] → read_from bad xs k (b ∷ bs) ≡ bad (k + 1)
+  pub is_stuck : (k b : ℕ) (bs : List ℕ) → flat_map (onward b) xs ≡ [] → read_from xs k (b ∷ bs) ≡ bad (k + 1)
   unfolding read_from readings reached followed pick some flat_map first_reading
   is_stuck k b bs is = let z : k + 0 + 1 ≡ k + 1 = omega arith in rw (is, followed_none bs) (ap bad z)
 
-  pub breaks_off : (k : ℕ) → flat_map ends_as xs ≡ [] → read_from bad xs k [] ≡ bad (k + 1)
+  pub breaks_off : (k : ℕ) → flat_map ends_as xs ≡ [] → read_from xs k [] ≡ bad (k + 1)
   unfolding read_from readings reached followed first_reading
   breaks_off k is = let z : k + 0 + 1 ≡ k + 1 = omega arith in rw is (ap bad z)
 
-  pub ends : (k : ℕ) (a : A) (rest : List A) → flat_map ends_as xs ≡ a ∷ rest → read_from bad xs k [] ≡ a
+  pub ends : (k : ℕ) (a : A) (rest : List A) → flat_map ends_as xs ≡ a ∷ rest → read_from xs k [] ≡ Ok a
   unfolding read_from readings reached followed first_reading
   ends k a rest is = rw is
 
   -- what the next byte leads to decides
-  pub same_next : (ys : List (Form A)) (k b : ℕ) (bs : List ℕ) → flat_map (onward b) xs ≡ flat_map (onward b) ys → read_from bad xs k (b ∷ bs) ≡ read_from bad ys k (b ∷ bs)
+  pub same_next : (ys : List (Form A)) (k b : ℕ) (bs : List ℕ) → flat_map (onward b) xs ≡ flat_map (onward b) ys → read_from xs k (b ∷ bs) ≡ read_from ys k (b ∷ bs)
   unfolding read_from readings reached followed
-  same_next ys k b bs is = ap (λ (zs : List (Form A)). first_reading (flat_map ends_as (followed zs bs)) (bad (k + pick (some zs) (suc (reached zs bs)) 0 + 1))) is
+  same_next ys k b bs is = ap (λ (zs : List (Form A)). first_reading (flat_map ends_as (followed zs bs)) (bad_from (k + pick (some zs) (suc (reached zs bs)) 0 + 1))) is
 
-  pub same_end : (ys : List (Form A)) (k : ℕ) → flat_map ends_as xs ≡ flat_map ends_as ys → read_from bad xs k [] ≡ read_from bad ys k []
+  pub same_end : (ys : List (Form A)) (k : ℕ) → flat_map ends_as xs ≡ flat_map ends_as ys → read_from xs k [] ≡ read_from ys k []
   unfolding read_from readings reached followed
-  same_end ys k is = ap (λ (zs : List A). first_reading zs (bad (k + 0 + 1))) is
+  same_end ys k is = ap (λ (zs : List A). first_reading zs (bad_from (k + 0 + 1))) is

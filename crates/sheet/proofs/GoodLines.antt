@@ -1,7 +1,7 @@
 -- Of every line: it is good exactly if it is allowed, and else it is bad at its column; what it says is read off a form that it is
 -- written in.
 use Prim.Native.Char.{code}
-use Prim.Native.Nat.{ℕ, zero, suc, ◌-◌, ◌<◌}
+use Prim.Native.Nat.{ℕ, zero, suc, ◌+◌, ◌-◌, ◌<◌}
 use mathlib.Core.Path.{◌≡◌, refl, sym, ◌∙◌, ap, subst}
 use mathlib.Core.Bool.{Bool, true, false}
 use mathlib.Core.List.{List, [], ◌∷◌, ◌++◌, flat_map, append_assoc}
@@ -11,45 +11,47 @@ use lib.Dec.{leb, eqb}
 use lib.ListN.{length, get_or}
 use Rattle.view.specs.Logic.{pick, is_one_of}
 use Rattle.view.specs.View.{with}
-use Rattle.view.proofs.Laws.{true_is_not_false, by_test, by_number, and_left, and_right, is_one_of_lem}
+use Rattle.view.proofs.Laws.{and_left, and_right, is_one_of_lem}
 use Rattle.print.specs.Text.{bytes}
-use Rattle.sheet.specs.declared.parse.Opening.{Opening}
-use Rattle.sheet.specs.declared.parse.Opening.TheVariants.{Bad as BadFirst, Fresh}
-use Rattle.sheet.specs.declared.parse.Line.{Line}
-use Rattle.sheet.specs.declared.parse.Line.TheVariants.{Bad, Step, Settle}
-use Rattle.sheet.specs.Grammar.{Piece, byte, size, digit, view, more, Form, form, is_digit, rises, value_of, when, passed, ended, onward, ends_as, followed, readings, some, allowed, column, first_reading, read}
-use Rattle.sheet.specs.Parse.{first_forms, later_forms, opened, parsed, stands, fitting, column_from, digit_at}
-use Rattle.sheet.proofs.Forms.{append_none, in_first_lem, in_second, byte-read, view_ends}
-use Rattle.sheet.proofs.Parsing.{answered}
-use Rattle.sheet.proofs.FirstBytes.{opening_good, opening_bad}
+use Rattle.std.specs.Prelude.{Result, Ok, Err, is_ok}
+use Rattle.sheet.specs.declared.parse.BadFrom.{BadFrom}
+use Rattle.sheet.specs.Grammar.{Piece, byte, size, digit, view, more, Form, form, is_digit, rises, value_of, when, passed, ended, onward, ends_as, followed, readings, some, allowed, column, bad_from, first_reading, read}
+use Rattle.sheet.specs.Parse.{◌>>=◌, first_forms, later_forms, opened, parsed, stands, follow, fits, digit_at}
+use Rattle.sheet.proofs.Forms.{bad, append_none, in_first_lem, in_second, byte-read, view_ends}
+use Rattle.sheet.proofs.FirstBytes.{first_read}
 
 -- ---- a good first line asks for 1 to 8 processes
-fits_at : (f l : List ℕ) (i : ℕ) → fitting f l ≡ length f → i < length f → stands (get_or f i 0) (get_or l i 0) ≡ true
-unfolding fitting pick
-fits_at [] l i e h = absurd (omega arith)
-fits_at (f ∷ fs) [] i e h = absurd (omega arith)
-fits_at (f ∷ fs) (b ∷ bs) i e h = by (stands f b) refl e i h (fits_at fs bs)
+fits_at : (f l : List ℕ) (k at i : ℕ) → follow f k l ≡ Ok at → i < length f → stands (get_or f i 0) (get_or l i 0) ≡ true
+unfolding follow pick
+fits_at [] l k at i e h = absurd (omega arith)
+fits_at (f ∷ fs) [] k at i e h = let never : ⊥ = cc in absurd never
+fits_at (f ∷ fs) (b ∷ bs) k at i e h = by (stands f b) refl e i h (fits_at fs bs (suc k) at)
   where
-    by : (t : Bool) → stands f b ≡ t → pick t (suc (fitting fs bs)) 0 ≡ suc (length fs) → (i : ℕ) → i < suc (length fs)
-        → ((j : ℕ) → fitting fs bs ≡ length fs → j < length fs → stands (get_or fs j 0) (get_or bs j 0) ≡ true)
+    by : (t : Bool) → stands f b ≡ t → pick t (follow fs (suc k) bs) (bad (k + 1)) ≡ Ok at → (i : ℕ) → i < suc (length fs)
+        → ((j : ℕ) → follow fs (suc k) bs ≡ Ok at → j < length fs → stands (get_or fs j 0) (get_or bs j 0) ≡ true)
         → stands (get_or (f ∷ fs) i 0) (get_or (b ∷ bs) i 0) ≡ true
     by true s e zero h rest = s
-    by true s e (suc i) h rest = rest i (omega arith) (omega arith)
-    by false s e i h rest = absurd (omega arith)
+    by true s e (suc i) h rest = rest i e (omega arith)
+    by false s e i h rest = let never : ⊥ = cc in absurd never
 
 good_size : (b : ℕ) → stands 78 b ≡ true → is_one_of 8 (b - 48) ≡ true
 unfolding stands pick
 good_size b e =
     is_one_of_lem 8 (b - 48) (omega (arith, leb-true 49 b (and_left (leb 49 b) (leb b 56) e))) (omega (arith, leb-true b 56 (and_right (leb 49 b) (leb b 56) e)))
 
-pub fresh_size : (l : List ℕ) (n : ℕ) → opened l ≡ Fresh n → is_one_of 8 n ≡ true
-unfolding bytes digit_at
-fresh_size l n e =
-    by_number (column_from (bytes "u N") l 0) 0
-    (λ good.
-    let is : n ≡ get_or l 2 0 - 48 = cc (opening_good l _ refl good) in
-    rw is (good_size (get_or l 2 0) (fits_at (bytes "u N") l 2 ((answered (bytes "u N") l 0 _ refl).good good).0 (omega arith))))
-    (λ bad. absurd (let z : ◌≡◌ {A = ℕ} 0 1 = cc (opening_bad l _ refl bad) in omega arith))
+pub fresh_size : (l : List ℕ) (n : ℕ) → opened l ≡ Ok n → is_one_of 8 n ≡ true
+unfolding bytes digit_at fits pick
+fresh_size l n e = by (follow (bytes "u N") 0 l) refl (sym (first_read l) ∙ e)
+  where
+    ends_there : (at : ℕ) → follow (bytes "u N") 0 l ≡ Ok at → (t : Bool)
+        → (pick t (Ok (tt {0})) (bad (at + 1)) >>= λ end. Ok (get_or l 2 0 - 48)) ≡ Ok n → is_one_of 8 n ≡ true
+    ends_there at to true e = let same : get_or l 2 0 - 48 ≡ n = cc in rw (← same) (good_size (get_or l 2 0) (fits_at (bytes "u N") l 0 at 2 to (omega arith)))
+    ends_there at to false e = let never : ⊥ = cc in absurd never
+
+    by : (r : Result ℕ BadFrom) → follow (bytes "u N") 0 l ≡ r
+        → (r >>= (λ end. pick (eqb (length l) end) (Ok (tt {0})) (bad (end + 1))) >>= λ end. Ok (get_or l 2 0 - 48)) ≡ Ok n → is_one_of 8 n ≡ true
+    by (Err b) to e = let never : ⊥ = cc in absurd never
+    by (Ok at) to e = ends_there at to (eqb (length l) at) e
 
 -- ---- the texts that a form stands for, with the values of their fields
 pub data Written : List Piece → List ℕ → List ℕ → Type 0 where
@@ -119,26 +121,26 @@ module _ {A : Type 0} (P : A → Type 0) where
   says_followed (b ∷ bs) xs h = says_followed bs (flat_map (onward b) xs) (says_onward b bs xs h)
 
   -- the first thing said, if any is
-  says_ended : (says : (ℕ → ℕ) → A) (fs : List ℕ) (ps : List Piece) (rest : List A) (a : A) → Says [] (form says fs ps) → (some rest ≡ true → P (first_reading rest a))
-      → some (ended says fs ps ++ rest) ≡ true → P (first_reading (ended says fs ps ++ rest) a)
+  says_ended : (says : (ℕ → ℕ) → A) (fs : List ℕ) (ps : List Piece) (rest : List A) (e : BadFrom) (a : A) → Says [] (form says fs ps)
+      → (first_reading rest e ≡ Ok a → P a) → first_reading (ended says fs ps ++ rest) e ≡ Ok a → P a
   unfolding ended first_reading
-  says_ended says fs [] rest a p h e = rw (append_none fs) at (p [] end)
-  says_ended says fs (byte c ∷ ps) rest a p h e = h e
-  says_ended says fs (size ∷ ps) rest a p h e = h e
-  says_ended says fs (digit ∷ ps) rest a p h e = h e
-  says_ended says fs (view ∷ ps) rest a p h e = h e
-  says_ended says fs (more last v ∷ ps) rest a p h e =
-      says_ended says (fs ++ (v ∷ [])) ps rest a (field_more says fs v (more last v ∷ ps) ps [] [] (λ vs w. no_more w) p) h e
+  says_ended says fs [] rest e a p h is = let same : says (λ i. get_or fs i 0) ≡ a = cc in subst P same (rw (append_none fs) at (p [] end))
+  says_ended says fs (byte c ∷ ps) rest e a p h is = h is
+  says_ended says fs (size ∷ ps) rest e a p h is = h is
+  says_ended says fs (digit ∷ ps) rest e a p h is = h is
+  says_ended says fs (view ∷ ps) rest e a p h is = h is
+  says_ended says fs (more last v ∷ ps) rest e a p h is =
+      says_ended says (fs ++ (v ∷ [])) ps rest e a (field_more says fs v (more last v ∷ ps) ps [] [] (λ vs w. no_more w) p) h is
 
-  says_first : (xs : List (Form A)) (a : A) → All (Says []) xs → some (flat_map ends_as xs) ≡ true → P (first_reading (flat_map ends_as xs) a)
-  unfolding flat_map some
-  says_first [] a none e = true_is_not_false (sym e)
-  says_first (x ∷ xs) a (also p ps) e = says_ended x.says x.fields x.left (flat_map ends_as xs) a p (says_first xs a ps) e
+  says_first : (xs : List (Form A)) (e : BadFrom) (a : A) → All (Says []) xs → first_reading (flat_map ends_as xs) e ≡ Ok a → P a
+  unfolding flat_map first_reading
+  says_first [] e a none is = let never : ⊥ = cc in absurd never
+  says_first (x ∷ xs) e a (also p ps) is = says_ended x.says x.fields x.left (flat_map ends_as xs) e a p (says_first xs e a ps) is
 
-  -- P holds of what an allowed line says, if it holds of what each form says
-  said_by_form : (bad : ℕ → A) (xs : List (Form A)) (l : List ℕ) → All (Says l) xs → allowed xs l ≡ true → P (read bad xs l)
-  unfolding allowed read readings
-  said_by_form bad xs l h e = says_first (followed xs l) _ (says_followed l xs h) e
+  -- P holds of what a line says, if it holds of what each form says
+  said_by_form : (xs : List (Form A)) (l : List ℕ) (a : A) → All (Says l) xs → read xs l ≡ Ok a → P a
+  unfolding read readings
+  said_by_form xs l a h is = says_first (followed xs l) _ a (says_followed l xs h) is
 
 -- the form stands in the list
 pub data In {A : Type 0} (x : Form A) : List (Form A) → Type 0 where
@@ -158,9 +160,9 @@ each_reads_off all [] l h = none
 each_reads_off all (x ∷ xs) l h =
     also (λ vs w. record { of = x; listed = h x here; values = vs; written = w; said = refl }) (each_reads_off all xs l (λ y i. h y (later i)))
 
--- what an allowed line says is read off a form that it is written in
-pub read_off : {A : Type 0} (bad : ℕ → A) (xs : List (Form A)) (l : List ℕ) → allowed xs l ≡ true → ReadOff xs l (read bad xs l)
-read_off bad xs l e = said_by_form (ReadOff xs l) bad xs l (each_reads_off xs xs l (λ x i. i)) e
+-- what a good line says is read off a form that it is written in
+pub read_off : {A : Type 0} (xs : List (Form A)) (l : List ℕ) (a : A) → read xs l ≡ Ok a → ReadOff xs l a
+read_off xs l a is = said_by_form (ReadOff xs l) xs l a (each_reads_off xs xs l (λ x i. i)) is
 
 -- and a line that is written in one of the forms is allowed: the byte leads to a form in which the rest is written
 leads : {A : Type 0} (x y : Form A) (us ws : List (Form A)) (b : ℕ) (l : List ℕ) → onward b x ≡ us ++ (y ∷ ws) → some (readings (y ∷ []) l) ≡ true
@@ -187,56 +189,39 @@ unfolding allowed
 written_allowed {A} {x} vs l (here {xs}) w = in_first_lem (x ∷ []) xs l (written_read x.says x.fields w)
 written_allowed vs l (later {y} {xs} i) w = in_second (y ∷ []) xs l (written_allowed vs l i w)
 
--- ---- any other is bad, at its column
-none_said : {A : Type 0} (rs : List A) (a : A) → some rs ≡ false → first_reading rs a ≡ a
+-- ---- a line is good exactly if it is allowed, and any other is bad, at its column
+some_said : {A : Type 0} (rs : List A) (e : BadFrom) → is_ok (first_reading rs e) ≡ some rs
 unfolding some first_reading
-none_said [] a e = refl
-none_said (r ∷ rs) a e = true_is_not_false e
+some_said [] e = refl
+some_said (r ∷ rs) e = refl
 
-bad_otherwise : {A : Type 0} (bad : ℕ → A) (xs : List (Form A)) (l : List ℕ) → allowed xs l ≡ false → read bad xs l ≡ bad (column xs l)
-unfolding allowed read
-bad_otherwise bad xs l e = none_said (readings xs l) (bad (column xs l)) e
+none_said : {A : Type 0} (rs : List A) (e d : BadFrom) → first_reading rs e ≡ Err d → e ≡ d
+unfolding first_reading
+none_said [] e d is = cc
+none_said (r ∷ rs) e d is = let never : ⊥ = cc in absurd never
+
+module _ {A : Type 0} (xs : List (Form A)) (l : List ℕ) where
+  good_if_allowed_of : is_ok (read xs l) ≡ allowed xs l
+  unfolding read allowed
+  good_if_allowed_of = some_said (readings xs l) (bad_from (column xs l))
+
+  bad_column_of : (k : ℕ) → read xs l ≡ bad k → k ≡ column xs l
+  unfolding read
+  bad_column_of k is = ap (λ (d : BadFrom). d.0) (sym (none_said (readings xs l) (bad_from (column xs l)) (bad_from k) is))
 
 -- ---- the two lists of forms
-unfoldable pub good_first : Opening → Bool
-good_first (BadFirst k) = false
-good_first (Fresh n) = true
+pub good_if_allowed_first : (l : List ℕ) → is_ok (opened l) ≡ allowed first_forms l
+unfolding opened
+good_if_allowed_first l = good_if_allowed_of first_forms l
 
-unfoldable pub good : Line → Bool
-good (Bad k) = false
-good (Step o) = true
-good Settle = true
+pub good_if_allowed : (l : List ℕ) → is_ok (parsed l) ≡ allowed later_forms l
+unfolding parsed
+good_if_allowed l = good_if_allowed_of later_forms l
 
-first_good : (l : List ℕ) → All (Says (λ (x : Opening). good_first x ≡ true) l) first_forms
-unfolding good_first
-first_good l = also (λ vs w. refl) none
+pub bad_first_column : (l : List ℕ) (k : ℕ) → opened l ≡ bad k → k ≡ column first_forms l
+unfolding opened
+bad_first_column l k is = bad_column_of first_forms l k is
 
-later_good : (l : List ℕ) → All (Says (λ (x : Line). good x ≡ true) l) later_forms
-unfolding good
-later_good l =
-    also (λ vs w. refl) (also (λ vs w. refl) (also (λ vs w. refl) (also (λ vs w. refl) (also (λ vs w. refl) (also (λ vs w. refl) (also (λ vs w. refl) (also (λ vs w. refl) none)))))))
-
--- good exactly if allowed
-pub good_if_allowed_first : (l : List ℕ) → good_first (opened l) ≡ allowed first_forms l
-unfolding opened good_first
-good_if_allowed_first l =
-    by_test (allowed first_forms l)
-    (λ e. said_by_form (λ x. good_first x ≡ true) BadFirst first_forms l (first_good l) e ∙ sym e)
-    (λ e. ap good_first (bad_otherwise BadFirst first_forms l e) ∙ sym e)
-
-pub good_if_allowed : (l : List ℕ) → good (parsed l) ≡ allowed later_forms l
-unfolding parsed good
-good_if_allowed l =
-    by_test (allowed later_forms l)
-    (λ e. said_by_form (λ x. good x ≡ true) Bad later_forms l (later_good l) e ∙ sym e)
-    (λ e. ap good (bad_otherwise Bad later_forms l e) ∙ sym e)
-
--- the column of a bad line
-pub bad_first_column : (l : List ℕ) (k : ℕ) → opened l ≡ BadFirst k → k ≡ column first_forms l
-unfolding opened good_first
-bad_first_column l k e =
-    let not-allowed : allowed first_forms l ≡ false = sym (good_if_allowed_first l) ∙ ap good_first e in cc (bad_otherwise BadFirst first_forms l not-allowed)
-
-pub bad_column : (l : List ℕ) (k : ℕ) → parsed l ≡ Bad k → k ≡ column later_forms l
-unfolding parsed good
-bad_column l k e = let not-allowed : allowed later_forms l ≡ false = sym (good_if_allowed l) ∙ ap good e in cc (bad_otherwise Bad later_forms l not-allowed)
+pub bad_column : (l : List ℕ) (k : ℕ) → parsed l ≡ bad k → k ≡ column later_forms l
+unfolding parsed
+bad_column l k is = bad_column_of later_forms l k is

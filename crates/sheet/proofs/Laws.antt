@@ -1,18 +1,23 @@
 -- Laws of a sheet's lines.
 use Prim.Native.Nat.{ℕ, suc, ◌+◌, ◌-◌, ◌≤◌, ◌<◌}
-use mathlib.Core.Path.{◌≡◌, refl, ap}
+use mathlib.Core.Path.{◌≡◌, refl, ap, subst}
 use mathlib.Core.Bool.{Bool, true, false}
 use mathlib.Core.List.{List, [], ◌∷◌}
 use native.Mathlib.Omega.{arith}
 use native.Mathlib.Nat.{add_assoc, add-sub_cancel_left}
 use native.Mathlib.Numerals.{add-one}
-use borrow.Author.Tests.{eq-eqb, ne_eqb, lt-ltb, le-ltb, ltb-true, ltb-false}
+use borrow.Author.Tests.{lt-ltb, le-ltb, ltb-true, ltb-false}
 use lib.Dec.{ltb}
-use lib.ListN.{length, get_or, take, drop, length-drop, drop_of_length-le}
-use lib.Seq.{drop-cons, drop-drop}
+use lib.ListN.{length, take, drop, length-drop, drop_of_length-le}
+use lib.Seq.{drop-drop}
+use Rattle.std.specs.Prelude.{Option, None, Some, IfSome, not, cond}
+use Rattle.std.specs.Option.{unwrap_or}
+use Rattle.std.proofs.lemmas.List.{take_rest}
+use Rattle.std.specs.List.{position, position_or_len}
 use Rattle.view.specs.Logic.{pick}
-use Rattle.sheet.specs.declared.lines.Found.TheVariants.{End, Span}
-use Rattle.sheet.specs.Lines.{is_feed, in_first, with_byte, lines_of, line_length, next_place, line_between, line_at}
+use Rattle.view.proofs.Laws.{by_test}
+use Rattle.sheet.specs.declared.lines.Span.{Span}
+use Rattle.sheet.specs.Lines.{is_feed, in_first, with_byte, lines_of, line_length, span, next_place, line_between, line_at}
 
 -- ---- how long a line is
 no_longer : (l : List ℕ) → line_length l ≤ length l
@@ -24,21 +29,27 @@ no_longer (b ∷ bs) = by (is_feed b) (no_longer bs)
     by true h = omega arith
     by false h = omega arith
 
+-- the place of its line feed, or the text's length
+line_prefix : (l : List ℕ) → position_or_len is_feed l ≡ line_length l
+unfolding line_length pick
+line_prefix [] = refl
+line_prefix (b ∷ bs) = by (is_feed b) (line_prefix bs)
+  where
+    by : (t : Bool) → position_or_len is_feed bs ≡ line_length bs → cond (not t) (1 + position_or_len is_feed bs) 0 ≡ pick t 0 (suc (line_length bs))
+    by true e = refl
+    by false e = omega arith
+
+pub line_position : (l : List ℕ) → unwrap_or (position is_feed l) (length l) ≡ line_length l
+line_position l =
+    rw (line_prefix l)
+    (by_test (ltb (line_length l) (length l)) (λ e. rw e) (λ e. rw e (omega (arith, no_longer l, ltb-false (line_length l) (length l) e))))
+
 pub line_within : (s : List ℕ) (at : ℕ) → at ≤ length s → at + line_length (drop at s) ≤ length s
 line_within s at h = omega (arith, no_longer (drop at s), length-drop at s)
 
-pub no_line : (s : List ℕ) (i : ℕ) → length s ≤ i → line_length (drop i s) ≡ 0
-unfolding line_length
-no_line s i h = rw (drop_of_length-le s h)
-
-pub line_ends : (s : List ℕ) (i : ℕ) → i < length s → get_or s i 0 ≡ 10 → line_length (drop i s) ≡ 0
-unfolding line_length pick
-line_ends s i h e = rw (drop-cons s i 0 h, eq-eqb (get_or s i 0) 10 e)
-
-pub line_goes_on : (s : List ℕ) (i : ℕ) → i < length s → (get_or s i 0 ≡ 10 → ⊥)
-    → line_length (drop i s) ≡ suc (line_length (drop (i + 1) s))
-unfolding line_length pick
-line_goes_on s i h n = rw (add-one, drop-cons s i 0 h, ne_eqb (get_or s i 0) 10 n)
+-- the same of the slice that begins there
+pub rest_within : (s : List ℕ) (at : ℕ) → at ≤ length s → at + line_length (take (length s - at) (drop at s)) ≤ length s
+rest_within s at h = rw (take_rest s at) (line_within s at h)
 
 -- ---- the line at a place is the first of those from there on
 by_feed : (t : Bool) (b : ℕ) (bs : List ℕ)
@@ -55,50 +66,52 @@ first_line_lem [] h = absurd (omega arith)
 first_line_lem (b ∷ []) h = by_feed (is_feed b) b [] refl
 first_line_lem (b ∷ (c ∷ cs)) h = by_feed (is_feed b) b (c ∷ cs) (ap (in_first b) (first_line_lem (c ∷ cs) (omega arith)))
 
--- what the reader's answer says of the lines from its place on
-pub record Cut (s : List ℕ) (at start end next : ℕ) : Type 0 where
-  pub lines : lines_of (drop at s) ≡ take (end - start) (drop start s) ∷ lines_of (drop next s)
-  pub ordered : start ≤ end
-  pub within : end ≤ length s
-  pub onward : at < next
-  pub last : next ≤ length s + 1
+-- what the line at a place says of the lines from there on
+pub record Cut (s : List ℕ) (at : ℕ) (line : Span) : Type 0 where
+  pub lines : lines_of (drop at s) ≡ take (line.end - line.start) (drop line.start s) ∷ lines_of (drop line.next s)
+  pub ordered : line.start ≤ line.end
+  pub within : line.end ≤ length s
 
-line_here : (s : List ℕ) (at : ℕ) → at < length s → line_at s at ≡ Span at (at + line_length (drop at s)) (at + line_length (drop at s) + 1)
+line_here : (s : List ℕ) (at : ℕ) → at < length s → line_at s at ≡ Some (span at (at + line_length (drop at s)) (at + line_length (drop at s) + 1))
 unfolding line_at line_between next_place pick
 line_here s at h =
     let e : at + line_length (drop at s) + 1 - 1 ≡ at + line_length (drop at s) = omega arith in
     rw (lt-ltb at (length s) h, lt-ltb at (at + line_length (drop at s) + 1) (omega arith), e)
 
-none_here : (s : List ℕ) (at : ℕ) → length s ≤ at → line_at s at ≡ End
+none_here : (s : List ℕ) (at : ℕ) → length s ≤ at → line_at s at ≡ None
 unfolding line_at line_between next_place pick
 none_here s at h = rw (le-ltb at (length s) h, le-ltb at at (omega arith))
 
-pub line_found : (s : List ℕ) (at start end next : ℕ) → line_at s at ≡ Span start end next → Cut s at start end next
-line_found s at start end next e = by (ltb at (length s)) refl
+cut_here : (s : List ℕ) (at : ℕ) → at < length s → Cut s at (span at (at + line_length (drop at s)) (at + line_length (drop at s) + 1))
+cut_here s at h =
+    record {
+      lines = rw (add-sub_cancel_left, add_assoc, ← drop-drop, add-one) (first_line_lem (drop at s) (omega (arith, length-drop at s)));
+      ordered = omega arith;
+      within = line_within s at (omega arith);
+    }
+
+pub line_found : (s : List ℕ) (at : ℕ) (line : Span) → line_at s at ≡ Some line → Cut s at line
+line_found s at line e =
+    by_test (ltb at (length s))
+    (λ here. let h = ltb-true at (length s) here in
+    let same : span at (at + line_length (drop at s)) (at + line_length (drop at s) + 1) ≡ line = cc (line_here s at h) in
+    subst (Cut s at) same (cut_here s at h))
+    (λ past. let none = none_here s at (ltb-false at (length s) past) in cc)
+
+-- it lies within the sheet
+pub in_sheet : (s : List ℕ) (at : ℕ) → IfSome (line_at s at) (λ l. (l.start ≤ l.end) × (l.end ≤ length s))
+in_sheet s at = by (line_at s at) refl
   where
-    go : at < length s → start ≡ at → end ≡ at + line_length (drop at s) → next ≡ at + line_length (drop at s) + 1 → Cut s at start end next
-    go l a b c =
-        record {
-          lines =
-              rw (a, b, c, add-sub_cancel_left, add_assoc, ← drop-drop, add-one)
-              (first_line_lem (drop at s) (omega (arith, length-drop at s)));
-          ordered = omega arith;
-          within = omega (arith, no_longer (drop at s), length-drop at s);
-          onward = omega arith;
-          last = omega (arith, no_longer (drop at s), length-drop at s);
-        }
+    by : (found : Option Span) → line_at s at ≡ found → IfSome found (λ l. (l.start ≤ l.end) × (l.end ≤ length s))
+    by None e = tt
+    by (Some line) e = let cut = line_found s at line e in (cut.ordered, cut.within)
 
-    by : (t : Bool) → ltb at (length s) ≡ t → Cut s at start end next
-    by true h = let here = line_here s at (ltb-true at (length s) h) in go (ltb-true at (length s) h) (cc) (cc) (cc)
-    by false h = let none = none_here s at (ltb-false at (length s) h) in absurd (let z : ◌≡◌ {A = ℕ} 0 1 = cc in omega arith)
-
-pub end_found : (s : List ℕ) (at : ℕ) → line_at s at ≡ End → lines_of (drop at s) ≡ []
+pub none_found : (s : List ℕ) (at : ℕ) → line_at s at ≡ None → lines_of (drop at s) ≡ []
 unfolding lines_of
-end_found s at e = by (ltb at (length s)) refl
-  where
-    by : (t : Bool) → ltb at (length s) ≡ t → lines_of (drop at s) ≡ []
-    by true h = let here = line_here s at (ltb-true at (length s) h) in absurd (let z : ◌≡◌ {A = ℕ} 0 1 = cc in omega arith)
-    by false h = rw (drop_of_length-le s (ltb-false at (length s) h))
+none_found s at e =
+    by_test (ltb at (length s))
+    (λ here. let some = line_here s at (ltb-true at (length s) here) in cc)
+    (λ past. rw (drop_of_length-le s (ltb-false at (length s) past)))
 
 -- the lines' bytes, each with a line feed
 unfoldable pub weight : List (List ℕ) → ℕ

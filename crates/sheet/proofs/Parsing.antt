@@ -6,47 +6,56 @@ use mathlib.Core.List.{List, [], ◌∷◌, ◌++◌, map, flat_map, append_asso
 use native.Mathlib.Omega.{arith}
 use native.Mathlib.Nat.{add-zero}
 use native.Mathlib.Numerals.{add-one}
-use borrow.Author.Tests.{eq-eqb, ne_eqb, eqb-true, ltb-true, leb-true}
+use borrow.Author.Tests.{eq-eqb, ne_eqb, lt-ltb, le-leb, eqb-true, ltb-true, ltb-false}
+use Rattle.std.proofs.lemmas.Bool.Decides.{nat_tests}
+use mathlib.Core.Logic.{◌⊎◌}
 use lib.Dec.{eqb, ltb, leb}
-use lib.ListN.{length, get_or, drop, length-drop, drop_of_length-le}
-use lib.Seq.{drop-cons}
+use lib.ListN.{length, get_or, take, drop, length-drop, drop_of_length-le}
+use lib.Seq.{drop-cons, drop-drop, get_or-drop}
+use Rattle.std.proofs.lemmas.List.{take_rest}
 use Rattle.view.specs.Logic.{pick}
 use Rattle.view.specs.View.{with}
-use Rattle.view.proofs.Laws.{true_is_not_false, by_pick, by_test, by_number, and_left, and_right, and_intro}
+use Rattle.view.proofs.Laws.{true_is_not_false, by_pick, by_test, by_number, and_left, and_right}
+use Rattle.std.specs.Prelude.{Result, Ok, Err, IsErrAnd}
+use Rattle.std.proofs.lemmas.Result.{err_from_is_err_and}
+use Rattle.sheet.specs.declared.parse.BadFrom.{BadFrom}
 use Rattle.sheet.specs.declared.parse.Field.{Field}
 use Rattle.sheet.specs.Grammar.{Piece, view, more, Form, form, is_capital, piece, rises, value_of, when, passed, ended, onward, ends_as, some}
-use Rattle.sheet.specs.Parse.{stands, fitting, column_by, column_from, digit_at, field, risen, view_from}
-use Rattle.sheet.proofs.Forms.{append_none, read_from, goes_on, is_stuck, breaks_off, ends, same_next, same_end}
+use Rattle.sheet.specs.Parse.{◌>>=◌, stands, follow, fits, digit_at, field, risen, view_from}
+use Rattle.sheet.proofs.Forms.{append_none, bad, read_from, goes_on, is_stuck, breaks_off, ends, same_next, same_end}
 
--- ---- the code's loop over a form, after i bytes of it
-module _ (f l : List ℕ) (from i at r : ℕ) (so : from + fitting f (drop from l) ≡ at + fitting (drop i f) (drop at l)) where
-  pub form-done : length f ≤ i → at ≡ from + fitting f (drop from l)
-  unfolding fitting
-  form-done h = omega (arith, so, ap (λ (g : List ℕ). fitting g (drop at l)) (drop_of_length-le f h))
+-- ---- the code's loop over a form, after i bytes of it, at this place of the line
+module _ (f l : List ℕ) (i at : ℕ) where
+  pub form_done : length f ≤ i → follow (drop i f) at (drop at l) ≡ Ok at
+  unfolding follow
+  form_done h = rw (drop_of_length-le f h)
 
-  pub line_done_lem : i < length f → length l ≤ at → at ≡ from + fitting f (drop from l)
-  unfolding fitting
-  line_done_lem h s = omega (arith, so, let e : fitting (drop i f) (drop at l) ≡ 0 = rw (drop_of_length-le l s, drop-cons f i 0 h) in e)
+  module _ (hf : i < length f) where
+    pub line_done : length l ≤ at → follow (drop i f) at (drop at l) ≡ bad (at + 1)
+    unfolding follow
+    line_done s = rw (drop_of_length-le l s, drop-cons f i 0 hf)
 
-  module _ (x : Bool) (is : x ≡ stands (get_or f i 0) (get_or l at 0)) (hf : i < length f) (hl : at < length l) where
-    pub byte_fits : x ≡ true → from + fitting f (drop from l) ≡ at + 1 + fitting (drop (i + 1) f) (drop (at + 1) l)
-    unfolding fitting pick
-    byte_fits e =
-        let s : fitting (drop i f) (drop at l) ≡ suc (fitting (drop (i + 1) f) (drop (at + 1) l)) =
-        rw (add-one i, add-one at, drop-cons f i 0 hf, drop-cons l at 0 hl, ← is, e) in
-        omega arith
+    module _ (hl : at < length l) where
+      pub byte_fits : stands (get_or f i 0) (get_or l at 0) ≡ true → follow (drop i f) at (drop at l) ≡ follow (drop (i + 1) f) (at + 1) (drop (at + 1) l)
+      unfolding follow pick
+      byte_fits e = rw (add-one i, add-one at, drop-cons f i 0 hf, drop-cons l at 0 hl, e)
 
-    pub byte_differs : x ≡ false → at ≡ from + fitting f (drop from l)
-    unfolding fitting pick
-    byte_differs e =
-        let s : fitting (drop i f) (drop at l) ≡ 0 = rw (drop-cons f i 0 hf, drop-cons l at 0 hl, ← is, e) in
-        omega arith
+      pub byte_differs : stands (get_or f i 0) (get_or l at 0) ≡ false → follow (drop i f) at (drop at l) ≡ bad (at + 1)
+      unfolding follow pick
+      byte_differs e = rw (drop-cons f i 0 hf, drop-cons l at 0 hl, e)
 
-pub fitting-form : (f l : List ℕ) → fitting f l ≤ length f
-unfolding fitting
-fitting-form [] l = omega arith
-fitting-form (f ∷ fs) [] = omega arith
-fitting-form (f ∷ fs) (b ∷ bs) = by_pick (λ (k : ℕ). k ≤ suc (length fs)) (stands f b) _ _ (λ e. omega (arith, fitting-form fs bs)) (λ e. omega arith)
+-- where a form has been followed to
+pub followed_to : (t : List ℕ) (k : ℕ) (m : List ℕ) (at : ℕ) → follow t k m ≡ Ok at → (at ≡ k + length t) × (at ≤ k + length m)
+unfolding follow pick
+followed_to [] k m at e = let same : k ≡ at = cc in (omega arith, omega arith)
+followed_to (f ∷ t) k [] at e = cc
+followed_to (f ∷ t) k (b ∷ bs) at e = by (stands f b) e (followed_to t (suc k) bs at)
+  where
+    by : (s : Bool) → pick s (follow t (suc k) bs) (bad (k + 1)) ≡ Ok at
+        → (follow t (suc k) bs ≡ Ok at → (at ≡ suc k + length t) × (at ≤ suc k + length bs))
+        → (at ≡ k + suc (length t)) × (at ≤ k + suc (length bs))
+    by true e rest = let far = rest e in (omega arith, omega arith)
+    by false e rest = let never : ⊥ = cc in absurd never
 
 -- ---- a part of a form without a view
 -- a form that has this text before what is left of it
@@ -137,118 +146,86 @@ fields_on f t fs b bs = rw (values_on t 0 b bs) (by (is_capital f))
     by true = sym (append_assoc fs (value_of b ∷ []) (values t 0 bs))
     by false = refl
 
+-- ---- the code's `?`
+module _ {A B : Type 0} where
+  pub then_same : (r : Result A BadFrom) (f g : A → Result B BadFrom) → ((a : A) → r ≡ Ok a → f a ≡ g a) → (r >>= f) ≡ (r >>= g)
+  then_same (Ok a) f g h = h a refl
+  then_same (Err e) f g h = refl
+
+  pub then_then : {C : Type 0} (r : Result A BadFrom) (f : A → Result B BadFrom) (g : B → Result C BadFrom) → (r >>= f >>= g) ≡ (r >>= λ a. f a >>= g)
+  then_then (Ok a) f g = refl
+  then_then (Err e) f g = refl
+
+-- what a `?` returns where it stops
+pub gives_up : {A B : Type 0} (out : Result B BadFrom) (e : BadFrom) (r : Result A BadFrom) (f : A → Result B BadFrom)
+    → IsErrAnd out (λ d. d ≡ e) → Err e ≡ r → out ≡ (r >>= f)
+gives_up out e r f left is = let p = err_from_is_err_and out left in rw (p.1, p.2, ← is)
+
 -- ---- a line goes through a text without a view, up to the byte that does not fit
-module _ {A : Type 0} (bad : ℕ → A) (x : Form A) (xs : List (Form A)) where
+module _ {A : Type 0} (x : Form A) (xs : List (Form A)) where
   -- one byte fits
   text_on : (f : ℕ) (t fs : List ℕ) (k b : ℕ) (bs : List ℕ) → plain f ≡ true → stands f b ≡ true
-      → read_from bad (map (before (f ∷ t) fs) (x ∷ xs)) k (b ∷ bs) ≡ read_from bad (map (before t (grown f b fs)) (x ∷ xs)) (suc k) bs
+      → read_from (map (before (f ∷ t) fs) (x ∷ xs)) k (b ∷ bs) ≡ read_from (map (before t (grown f b fs)) (x ∷ xs)) (suc k) bs
   unfolding pick some
-  text_on f t fs k b bs p e = goes_on bad (map (before (f ∷ t) fs) (x ∷ xs)) k b bs _ (passed_before f t fs b (x ∷ xs) p ∙ rw e) refl
+  text_on f t fs k b bs p e = goes_on (map (before (f ∷ t) fs) (x ∷ xs)) k b bs _ (passed_before f t fs b (x ∷ xs) p ∙ rw e) refl
 
-  pub text_fits : (t fs : List ℕ) (k : ℕ) (m : List ℕ) → all_plain t ≡ true → fitting t m ≡ length t
-      → read_from bad (map (before t fs) (x ∷ xs)) k m ≡ read_from bad (map (before [] (fs ++ values t 0 m)) (x ∷ xs)) (k + length t) (drop (length t) m)
-  unfolding fitting pick values all_plain
-  text_fits [] fs k m p h = rw (add-zero k) (ap (λ (ys : List ℕ). read_from bad (map (before [] ys) (x ∷ xs)) k m) (sym (append_none fs)))
-  text_fits (f ∷ t) fs k [] p h = absurd (omega arith)
-  text_fits (f ∷ t) fs k (b ∷ bs) p h = by (stands f b) refl h (text_fits t (grown f b fs) (suc k) bs (and_right (plain f) (all_plain t) p))
+  text_read_lem : (t fs : List ℕ) (k : ℕ) (m : List ℕ) → all_plain t ≡ true
+      → read_from (map (before t fs) (x ∷ xs)) k m
+      ≡ (follow t k m >>= λ at. read_from (map (before [] (fs ++ values t 0 m)) (x ∷ xs)) at (drop (length t) m))
+  unfolding follow pick values all_plain
+  text_read_lem [] fs k m p = ap (λ (ys : List ℕ). read_from (map (before [] ys) (x ∷ xs)) k m) (sym (append_none fs))
+  text_read_lem (f ∷ t) fs k [] p = breaks_off (map (before (f ∷ t) fs) (x ∷ xs)) k (ended_before f t fs (x ∷ xs))
+  text_read_lem (f ∷ t) fs k (b ∷ bs) p = by (stands f b) refl (text_read_lem t (grown f b fs) (suc k) bs (and_right (plain f) (all_plain t) p))
     where
-      by : (s : Bool) → stands f b ≡ s → pick s (suc (fitting t bs)) 0 ≡ suc (length t)
-          → (fitting t bs ≡ length t
-          → read_from bad (map (before t (grown f b fs)) (x ∷ xs)) (suc k) bs
-          ≡ read_from bad (map (before [] (grown f b fs ++ values t 0 bs)) (x ∷ xs)) (suc k + length t) (drop (length t) bs))
-          → read_from bad (map (before (f ∷ t) fs) (x ∷ xs)) k (b ∷ bs)
-          ≡ read_from bad (map (before [] (fs ++ values (f ∷ t) 0 (b ∷ bs))) (x ∷ xs)) (k + suc (length t)) (drop (length t) bs)
-      by true s h rest =
-          let n : k + suc (length t) ≡ suc k + length t = omega arith in
+      by : (s : Bool) → stands f b ≡ s
+          → (read_from (map (before t (grown f b fs)) (x ∷ xs)) (suc k) bs
+          ≡ (follow t (suc k) bs >>= λ at. read_from (map (before [] (grown f b fs ++ values t 0 bs)) (x ∷ xs)) at (drop (length t) bs)))
+          → read_from (map (before (f ∷ t) fs) (x ∷ xs)) k (b ∷ bs)
+          ≡ (pick s (follow t (suc k) bs) (bad (k + 1)) >>= λ at. read_from (map (before [] (fs ++ values (f ∷ t) 0 (b ∷ bs))) (x ∷ xs)) at (drop (length t) bs))
+      by true s rest =
           text_on f t fs k b bs (and_left (plain f) (all_plain t) p) s
-          ∙ rest (omega arith)
-          ∙ rw n (ap (λ (ys : List ℕ). read_from bad (map (before [] ys) (x ∷ xs)) (suc k + length t) (drop (length t) bs)) (sym (fields_on f t fs b bs)))
-      by false s h rest = absurd (omega arith)
+          ∙ rest
+          ∙ ap (λ (ys : List ℕ). follow t (suc k) bs >>= λ at. read_from (map (before [] ys) (x ∷ xs)) at (drop (length t) bs)) (sym (fields_on f t fs b bs))
+      by false s rest =
+          is_stuck (map (before (f ∷ t) fs) (x ∷ xs)) k b bs (passed_before f t fs b (x ∷ xs) (and_left (plain f) (all_plain t) p) ∙ rw s)
 
-  pub text_fails : (t fs : List ℕ) (k : ℕ) (m : List ℕ) → all_plain t ≡ true → fitting t m < length t
-      → read_from bad (map (before t fs) (x ∷ xs)) k m ≡ bad (k + fitting t m + 1)
-  unfolding fitting pick all_plain
-  text_fails [] fs k m p h = absurd (omega arith)
-  text_fails (f ∷ t) fs k [] p h =
-      let n : k + 1 ≡ k + 0 + 1 = omega arith in
-      breaks_off bad (map (before (f ∷ t) fs) (x ∷ xs)) k (ended_before f t fs (x ∷ xs)) ∙ ap bad n
-  text_fails (f ∷ t) fs k (b ∷ bs) p h = by (stands f b) refl h (text_fails t (grown f b fs) (suc k) bs (and_right (plain f) (all_plain t) p))
-    where
-      by : (s : Bool) → stands f b ≡ s → pick s (suc (fitting t bs)) 0 < suc (length t)
-          → (fitting t bs < length t → read_from bad (map (before t (grown f b fs)) (x ∷ xs)) (suc k) bs ≡ bad (suc k + fitting t bs + 1))
-          → read_from bad (map (before (f ∷ t) fs) (x ∷ xs)) k (b ∷ bs) ≡ bad (k + pick s (suc (fitting t bs)) 0 + 1)
-      by true s h rest =
-          let n : suc k + fitting t bs + 1 ≡ k + suc (fitting t bs) + 1 = omega arith in
-          text_on f t fs k b bs (and_left (plain f) (all_plain t) p) s
-          ∙ rest (omega arith)
-          ∙ ap bad n
-      by false s h rest =
-          let n : k + 1 ≡ k + 0 + 1 = omega arith in
-          is_stuck bad (map (before (f ∷ t) fs) (x ∷ xs)) k b bs (passed_before f t fs b (x ∷ xs) (and_left (plain f) (all_plain t) p) ∙ rw s) ∙ ap bad n
-
--- ---- where the form ends
-module _ {A : Type 0} (bad : ℕ → A) (says : (ℕ → ℕ) → A) (fs : List ℕ) (k : ℕ) where
-  form-ended : (m : List ℕ) → length m ≡ 0 → read_from bad (form says fs [] ∷ []) k m ≡ says (λ i. get_or fs i 0)
-  unfolding flat_map ended
-  form-ended [] h = ends bad (form says fs [] ∷ []) k _ [] refl
-  form-ended (c ∷ cs) h = absurd (omega arith)
-
-  line_longer : (m : List ℕ) → 0 < length m → read_from bad (form says fs [] ∷ []) k m ≡ bad (k + 1)
-  unfolding flat_map passed
-  line_longer [] h = absurd (omega arith)
-  line_longer (c ∷ cs) h = is_stuck bad (form says fs [] ∷ []) k c cs refl
+  -- the same of a line from a place on
+  pub text_read : (t fs : List ℕ) (from : ℕ) (l : List ℕ) → all_plain t ≡ true
+      → read_from (map (before t fs) (x ∷ xs)) from (drop from l)
+      ≡ (follow t from (drop from l) >>= λ at. read_from (map (before [] (fs ++ values t 0 (drop from l))) (x ∷ xs)) at (drop at l))
+  text_read t fs from l p =
+      text_read_lem t fs from (drop from l) p
+      ∙ then_same (follow t from (drop from l)) _ _
+      (λ at e. let here : drop (length t) (drop from l) ≡ drop at l = rw ((followed_to t from (drop from l) at e).0) (drop-drop (length t) from l) in
+      ap (read_from (map (before [] (fs ++ values t 0 (drop from l))) (x ∷ xs)) at) here)
 
 -- ---- a whole form without a view, from a place of the line on
-pub fitting_line : (f m : List ℕ) → fitting f m ≤ length m
-unfolding fitting
-fitting_line [] m = omega arith
-fitting_line (f ∷ fs) [] = omega arith
-fitting_line (f ∷ fs) (b ∷ bs) = by_pick (λ (k : ℕ). k ≤ suc (length bs)) (stands f b) _ _ (λ e. omega (arith, fitting_line fs bs)) (λ e. omega arith)
+module _ {A : Type 0} (says : (ℕ → ℕ) → A) (t fs l : List ℕ) where
+  form-ended : (vs : List ℕ) (at : ℕ) → at ≤ length l
+      → read_from (form says vs [] ∷ []) at (drop at l) ≡ (pick (eqb (length l) at) (Ok (tt {0})) (bad (at + 1)) >>= λ end. Ok (says (λ i. get_or vs i 0)))
+  unfolding flat_map passed ended pick
+  form-ended vs at h =
+      by_number (length l) at
+      (λ e. rw (eq-eqb (length l) at e) (over (drop at l) (simp length-drop (omega arith))))
+      (λ n. rw (ne_eqb (length l) at n) (longer (drop at l) (simp length-drop (omega (arith, n)))))
+    where
+      over : (m : List ℕ) → length m ≡ 0 → read_from (form says vs [] ∷ []) at m ≡ Ok (says (λ i. get_or vs i 0))
+      over [] h = ends (form says vs [] ∷ []) at _ [] refl
+      over (c ∷ cs) h = absurd (omega arith)
 
--- the code's answer: 0, or the column
-pub record Answered (t l : List ℕ) (from r : ℕ) : Type 0 where
-  pub good : r ≡ 0 → (fitting t (drop from l) ≡ length t) × (length l ≡ from + length t)
-  pub bad_at : (r ≡ 0 → ⊥) → (r ≡ from + fitting t (drop from l) + 1) × (fitting t (drop from l) ≡ length t → length l ≡ from + length t → ⊥)
+      longer : (m : List ℕ) → 0 < length m → read_from (form says vs [] ∷ []) at m ≡ bad (at + 1)
+      longer [] h = absurd (omega arith)
+      longer (c ∷ cs) h = is_stuck (form says vs [] ∷ []) at c cs refl
 
-pub answered : (t l : List ℕ) (from r : ℕ) → r ≡ column_from t l from → Answered t l from r
-unfolding column_by pick
-answered t l from r is =
-    let at = from + fitting t (drop from l) in
-    let end = from + length t in
-    let here = eqb at end in
-    let last = eqb (length l) end in
-    by_test (here && last)
-    (λ e.
-    let z : r ≡ 0 = is ∙ rw e in
-    let a : at ≡ end = eqb-true at end (and_left here last e) in
-    record { good = λ h. (omega arith, eqb-true (length l) end (and_right here last e)); bad_at = λ h. absurd (h z) })
-    (λ e.
-    let z : r ≡ at + 1 = is ∙ rw e in
-    record {
-      good = λ h. absurd (omega arith);
-      bad_at = λ h. (z, λ a b. let s : at ≡ end = omega arith in true_is_not_false (sym (and_intro (eq-eqb at end s) (eq-eqb (length l) end b)) ∙ e));
-    })
-
-module _ {A : Type 0} (bad : ℕ → A) (says : (ℕ → ℕ) → A) (fs t l : List ℕ) (from r : ℕ) (p : all_plain t ≡ true) (start : from ≤ length l) (is : r ≡ column_from t l from) where
-  pub form_fits : r ≡ 0 → read_from bad (form says fs (map piece t ++ []) ∷ []) from (drop from l) ≡ says (λ i. get_or (fs ++ values t 0 (drop from l)) i 0)
-  form_fits e =
-      let a = (answered t l from r is).good e in
-      text_fits bad (form says [] []) [] t fs from (drop from l) p a.0
-      ∙ form-ended bad says (fs ++ values t 0 (drop from l)) (from + length t) (drop (length t) (drop from l)) (simp length-drop (omega (arith, a.1)))
-
-  pub form_differs : (r ≡ 0 → ⊥) → read_from bad (form says fs (map piece t ++ []) ∷ []) from (drop from l) ≡ bad r
-  form_differs e =
-      let m = drop from l in
-      let a = (answered t l from r is).bad_at e in
-      by_number (fitting t m) (length t)
-      (λ f.
-      let z : from + length t + 1 ≡ r = omega (arith, a.0) in
-      let far : 0 < length (drop (length t) m) =
-      simp length-drop (omega (arith, simp length-drop at (fitting_line t m), a.1 f)) in
-      text_fits bad (form says [] []) [] t fs from m p f ∙ line_longer bad says (fs ++ values t 0 m) (from + length t) (drop (length t) m) far ∙ ap bad z)
-      (λ f.
-      let z : from + fitting t m + 1 ≡ r = sym a.0 in
-      text_fails bad (form says [] []) [] t fs from m p (omega (arith, fitting-form t m, f)) ∙ ap bad z)
+  pub form_read : (from : ℕ) → from ≤ length l → all_plain t ≡ true
+      → read_from (form says fs (map piece t ++ []) ∷ []) from (drop from l)
+      ≡ (fits t l from >>= λ end. Ok (says (λ i. get_or (fs ++ values t 0 (drop from l)) i 0)))
+  unfolding fits
+  form_read from h p =
+      text_read (form says [] []) [] t fs from l p
+      ∙ then_same (follow t from (drop from l)) _ _
+      (λ at e. form-ended (fs ++ values t 0 (drop from l)) at (omega (arith, (followed_to t from (drop from l) at e).1, length-drop from l)))
+      ∙ sym (then_then (follow t from (drop from l)) _ _)
 
 -- ---- a view
 -- what is left of a form cannot go on with a digit that a view could
@@ -302,53 +279,53 @@ module _ {A : Type 0} (fs : List ℕ) where
   view_other b [] d e = refl
   view_other b (x ∷ xs) d e = rw (d, e) (view_other b xs d e)
 
+no_rise : (last b : ℕ) → (b ≤ last) ⊎ (56 < b) → rises last b ≡ false
+no_rise last b h = grind (arith, nat_tests)
+
 -- the code's loop over the digits, after some of them
 pub digits_end : (last v : ℕ) (l : List ℕ) (i : ℕ) → length l ≤ i → risen i last v (drop i l) ≡ field i v
 unfolding risen
 digits_end last v l i h = rw (drop_of_length-le l h)
 
-pub still_digit : (last b top : ℕ) (x : Bool) → x ≡ (ltb last b && leb b top) → x ≡ true → 48 ≤ last → 48 ≤ b
-still_digit last b top x is e low = omega (arith, ltb-true last b (and_left (ltb last b) (leb b top) (sym is ∙ e)))
-
-module _ (last v : ℕ) (l : List ℕ) (i : ℕ) (x : Bool) (is : x ≡ (ltb last (get_or l i 0) && leb (get_or l i 0) 56)) (h : i < length l) where
-  pub digits_go_on : (w : ℕ) → x ≡ true → w ≡ with v (get_or l i 0 - 48) → risen i last v (drop i l) ≡ risen (i + 1) (get_or l i 0) w (drop (i + 1) l)
+module _ (last v : ℕ) (l : List ℕ) (i : ℕ) (h : i < length l) where
+  pub digits_go_on : last < get_or l i 0 → get_or l i 0 ≤ 56
+      → risen i last v (drop i l) ≡ risen (i + 1) (get_or l i 0) (with v (get_or l i 0 - 48)) (drop (i + 1) l)
   unfolding risen pick
-  digits_go_on w e added = rw (add-one, drop-cons l i 0 h, ← is, e, added)
+  digits_go_on up top = rw (add-one, drop-cons l i 0 h, lt-ltb last (get_or l i 0) up, le-leb (get_or l i 0) 56 top)
 
-  pub digits_fail : x ≡ false → risen i last v (drop i l) ≡ field i v
+  pub digits_fail : (get_or l i 0 ≤ last) ⊎ (56 < get_or l i 0) → risen i last v (drop i l) ≡ field i v
   unfolding risen pick
-  digits_fail e = rw (drop-cons l i 0 h, ← is, e)
+  digits_fail other = let no-digit : rises last (get_or l i 0) ≡ false = no_rise last (get_or l i 0) other in rw (drop-cons l i 0 h, no-digit)
 
 -- a view at place i of the line
-pub dash_at : (l : List ℕ) (i : ℕ) → i < length l → get_or l i 0 ≡ 45 → view_from i (drop i l) ≡ field (i + 1) 0
+pub dash_at : (l : List ℕ) (i : ℕ) → i < length l → get_or l i 0 ≡ 45 → view_from i (drop i l) ≡ Ok (field (i + 1) 0)
 unfolding view_from pick
 dash_at l i h e = rw (add-one, drop-cons l i 0 h, eq-eqb (get_or l i 0) 45 e)
 
-pub digits_at : (l : List ℕ) (i : ℕ) → i < length l → (get_or l i 0 ≡ 45 → ⊥) → view_from i (drop i l) ≡ risen i 48 0 (drop i l)
+pub digits_at : (l : List ℕ) (i : ℕ) → i < length l → 49 ≤ get_or l i 0 → get_or l i 0 ≤ 56 → view_from i (drop i l) ≡ Ok (risen i 48 0 (drop i l))
 unfolding view_from pick
-digits_at l i h n = rw (drop-cons l i 0 h, ne_eqb (get_or l i 0) 45 n)
+digits_at l i h low high =
+    rw (drop-cons l i 0 h, ne_eqb (get_or l i 0) 45 (λ e. omega arith), lt-ltb 48 (get_or l i 0) (omega arith), le-leb (get_or l i 0) 56 high)
 
-pub nothing_at : (l : List ℕ) (i : ℕ) → length l ≤ i → view_from i (drop i l) ≡ field i 0
-unfolding view_from
-nothing_at l i h = rw (drop_of_length-le l h)
+pub nothing_at : (l : List ℕ) (i : ℕ) → (i < length l → (get_or l i 0 ≡ 45 → ⊥) × ((get_or l i 0 ≤ 48) ⊎ (56 < get_or l i 0))) → view_from i (drop i l) ≡ bad (i + 1)
+unfolding view_from pick
+nothing_at l i h =
+    by_test (ltb i (length l))
+    (λ here. let at = ltb-true i (length l) here in
+    let no-digit : rises 48 (get_or l i 0) ≡ false = no_rise 48 (get_or l i 0) (h at).1 in
+    rw (drop-cons l i 0 at, ne_eqb (get_or l i 0) 45 (h at).0, no-digit))
+    (λ past. rw (drop_of_length-le l (ltb-false i (length l) past)))
 
--- the digits end at or after the place where they begin, and before long
+-- the first byte of the slice that begins at a place
+pub first_from : (l : List ℕ) (i : ℕ) → get_or (take (length l - i) (drop i l)) 0 0 ≡ get_or l i 0
+first_from l i = rw (take_rest l i, get_or-drop i l 0 0, add-zero)
+
+-- the digits end at or after the place where they begin, and within the line
 risen_low : (k last v : ℕ) (m : List ℕ) → k ≤ (risen k last v m).end
 unfolding risen
 risen_low k last v [] = omega arith
 risen_low k last v (b ∷ bs) =
     by_pick (λ (x : Field). k ≤ x.end) (rises last b) _ _ (λ e. omega (arith, risen_low (suc k) b (with v (value_of b)) bs)) (λ e. omega arith)
-
-risen_high : (k last v : ℕ) (m : List ℕ) → last ≤ 56 → (risen k last v m).end + last ≤ k + 56
-unfolding risen
-risen_high k last v [] h = omega arith
-risen_high k last v (b ∷ bs) h =
-    by_pick (λ (x : Field). x.end + last ≤ k + 56) (rises last b) _ _
-    (λ e.
-    let up : last < b = ltb-true last b (and_left (ltb last b) (leb b 56) e) in
-    let top : b ≤ 56 = leb-true b 56 (and_right (ltb last b) (leb b 56) e) in
-    omega (arith, risen_high (suc k) b (with v (value_of b)) bs top))
-    (λ e. omega arith)
 
 risen-within : (k last v : ℕ) (m : List ℕ) → (risen k last v m).end ≤ k + length m
 unfolding risen
@@ -356,85 +333,80 @@ risen-within k last v [] = omega arith
 risen-within k last v (b ∷ bs) =
     by_pick (λ (x : Field). x.end ≤ k + suc (length bs)) (rises last b) _ _ (λ e. omega (arith, risen-within (suc k) b (with v (value_of b)) bs)) (λ e. omega arith)
 
-pub view_within : (k : ℕ) (m : List ℕ) → (view_from k m).end ≤ k + length m
-unfolding view_from
-view_within k [] = omega arith
-view_within k (b ∷ bs) = by_pick (λ (x : Field). x.end ≤ k + suc (length bs)) (eqb b 45) _ _ (λ e. omega arith) (λ e. risen-within k 48 0 (b ∷ bs))
+pub view_within : (k : ℕ) (m : List ℕ) (w : Field) → view_from k m ≡ Ok w → (k ≤ w.end) × (w.end ≤ k + length m)
+unfolding view_from pick
+view_within k [] w e = cc
+view_within k (b ∷ bs) w e = by (eqb b 45) e
+  where
+    digits : (t : Bool) → pick t (Ok (risen k 48 0 (b ∷ bs))) (bad (k + 1)) ≡ Ok w → (k ≤ w.end) × (w.end ≤ k + suc (length bs))
+    digits true e = let same : risen k 48 0 (b ∷ bs) ≡ w = cc in rw (← same) (risen_low k 48 0 (b ∷ bs), risen-within k 48 0 (b ∷ bs))
+    digits false e = let never : ⊥ = cc in absurd never
 
-near : (k : ℕ) (m : List ℕ) → (view_from k m).end ≤ k + 8
-unfolding view_from
-near k [] = omega arith
-near k (b ∷ bs) = by_pick (λ (x : Field). x.end ≤ k + 8) (eqb b 45) _ _ (λ e. omega arith) (λ e. omega (arith, risen_high k 48 0 (b ∷ bs) (omega arith)))
+    by : (t : Bool) → pick t (Ok (field (suc k) 0)) (pick (rises 48 b) (Ok (risen k 48 0 (b ∷ bs))) (bad (k + 1))) ≡ Ok w
+        → (k ≤ w.end) × (w.end ≤ k + suc (length bs))
+    by true e = let same : field (suc k) 0 ≡ w = cc in rw (← same) (omega arith, omega arith)
+    by false e = digits (rises 48 b) e
 
-pub view_near : (w : Field) (k : ℕ) (m : List ℕ) → w ≡ view_from k m → w.end ≤ k + 8
-view_near w k m is = rw is (near k m)
-
-module _ {A : Type 0} (bad : ℕ → A) (x : Form A) (xs : List (Form A)) (shut : AllShut (x ∷ xs)) (fs : List ℕ) where
+module _ {A : Type 0} (x : Form A) (xs : List (Form A)) (shut : AllShut (x ∷ xs)) (fs : List ℕ) where
   -- the forms once the view has ended
   abbrev past : Field → List (Form A)
   past w = map (before [] (fs ++ (w.view ∷ []))) (x ∷ xs)
 
   digits-read : (last v k : ℕ) (m : List ℕ) → 48 ≤ last
-      → read_from bad (map (amid last v fs) (x ∷ xs)) k m ≡ read_from bad (past (risen k last v m)) (risen k last v m).end (drop ((risen k last v m).end - k) m)
+      → read_from (map (amid last v fs) (x ∷ xs)) k m ≡ read_from (past (risen k last v m)) (risen k last v m).end (drop ((risen k last v m).end - k) m)
   unfolding risen pick some
-  digits-read last v k [] h = let z : k - k ≡ 0 = omega arith in rw z (same_end bad (map (amid last v fs) (x ∷ xs)) (past (field k v)) k (amid_ended fs last v (x ∷ xs)))
+  digits-read last v k [] h = let z : k - k ≡ 0 = omega arith in rw z (same_end (map (amid last v fs) (x ∷ xs)) (past (field k v)) k (amid_ended fs last v (x ∷ xs)))
   digits-read last v k (b ∷ bs) h = by (rises last b) refl (digits-read b (with v (value_of b)) (suc k) bs)
     where
       by : (t : Bool) → rises last b ≡ t
-          → (48 ≤ b → read_from bad (map (amid b (with v (value_of b)) fs) (x ∷ xs)) (suc k) bs
-          ≡ read_from bad (past (risen (suc k) b (with v (value_of b)) bs)) (risen (suc k) b (with v (value_of b)) bs).end (drop ((risen (suc k) b (with v (value_of b)) bs).end - suc k) bs))
-          → read_from bad (map (amid last v fs) (x ∷ xs)) k (b ∷ bs)
-          ≡ read_from bad (past (pick t (risen (suc k) b (with v (value_of b)) bs) (field k v))) (pick t (risen (suc k) b (with v (value_of b)) bs) (field k v)).end (drop ((pick t (risen (suc k) b (with v (value_of b)) bs) (field k v)).end - k) (b ∷ bs))
+          → (48 ≤ b → read_from (map (amid b (with v (value_of b)) fs) (x ∷ xs)) (suc k) bs
+          ≡ read_from (past (risen (suc k) b (with v (value_of b)) bs)) (risen (suc k) b (with v (value_of b)) bs).end (drop ((risen (suc k) b (with v (value_of b)) bs).end - suc k) bs))
+          → read_from (map (amid last v fs) (x ∷ xs)) k (b ∷ bs)
+          ≡ read_from (past (pick t (risen (suc k) b (with v (value_of b)) bs) (field k v))) (pick t (risen (suc k) b (with v (value_of b)) bs) (field k v)).end (drop ((pick t (risen (suc k) b (with v (value_of b)) bs) (field k v)).end - k) (b ∷ bs))
       by true e rest =
           let up : last < b = ltb-true last b (and_left (ltb last b) (leb b 56) e) in
           let z : (risen (suc k) b (with v (value_of b)) bs).end - k ≡ suc ((risen (suc k) b (with v (value_of b)) bs).end - suc k) =
           omega (arith, risen_low (suc k) b (with v (value_of b)) bs) in
           rw z
-          (goes_on bad (map (amid last v fs) (x ∷ xs)) k b bs (map (amid b (with v (value_of b)) fs) (x ∷ xs)) (amid_on fs last v b (x ∷ xs) shut h e) refl
+          (goes_on (map (amid last v fs) (x ∷ xs)) k b bs (map (amid b (with v (value_of b)) fs) (x ∷ xs)) (amid_on fs last v b (x ∷ xs) shut h e) refl
           ∙ rest (omega arith))
       by false e rest =
           let z : k - k ≡ 0 = omega arith in
-          rw z (same_next bad (map (amid last v fs) (x ∷ xs)) (past (field k v)) k b bs (amid_other fs last v b (x ∷ xs) e))
+          rw z (same_next (map (amid last v fs) (x ∷ xs)) (past (field k v)) k b bs (amid_other fs last v b (x ∷ xs) e))
 
-  -- a view is there, and ends where the code says
-  pub view_read : (k : ℕ) (m : List ℕ) → k < (view_from k m).end
-      → read_from bad (map (viewing fs) (x ∷ xs)) k m ≡ read_from bad (past (view_from k m)) (view_from k m).end (drop ((view_from k m).end - k) m)
+  -- a view is there, and ends where the code says; or none is
+  pub view_read : (k : ℕ) (m : List ℕ)
+      → read_from (map (viewing fs) (x ∷ xs)) k m ≡ (view_from k m >>= λ w. read_from (past w) w.end (drop (w.end - k) m))
   unfolding view_from risen pick some
-  view_read k [] h = absurd (omega arith)
-  view_read k (b ∷ bs) h = by (eqb b 45) refl h
+  view_read k [] = breaks_off (map (viewing fs) (x ∷ xs)) k (view_ended fs (x ∷ xs))
+  view_read k (b ∷ bs) = by (eqb b 45) refl
     where
-      digits : (t : Bool) → rises 48 b ≡ t → eqb 45 b ≡ false → k < (pick t (risen (suc k) b (with 0 (value_of b)) bs) (field k 0)).end
-          → read_from bad (map (viewing fs) (x ∷ xs)) k (b ∷ bs)
-          ≡ read_from bad (past (pick t (risen (suc k) b (with 0 (value_of b)) bs) (field k 0))) (pick t (risen (suc k) b (with 0 (value_of b)) bs) (field k 0)).end (drop ((pick t (risen (suc k) b (with 0 (value_of b)) bs) (field k 0)).end - k) (b ∷ bs))
-      digits true e d h =
+      digits : (t : Bool) → rises 48 b ≡ t → eqb 45 b ≡ false
+          → read_from (map (viewing fs) (x ∷ xs)) k (b ∷ bs)
+          ≡ (pick t (Ok (risen k 48 0 (b ∷ bs))) (bad (k + 1)) >>= λ w. read_from (past w) w.end (drop (w.end - k) (b ∷ bs)))
+      digits true e d =
           let up : 48 < b = ltb-true 48 b (and_left (ltb 48 b) (leb b 56) e) in
-          let z : (risen (suc k) b (with 0 (value_of b)) bs).end - k ≡ suc ((risen (suc k) b (with 0 (value_of b)) bs).end - suc k) =
-          omega (arith, risen_low (suc k) b (with 0 (value_of b)) bs) in
-          rw z
-          (goes_on bad (map (viewing fs) (x ∷ xs)) k b bs (map (amid b (with 0 (value_of b)) fs) (x ∷ xs)) (view_digit fs b (x ∷ xs) d e) refl
-          ∙ digits-read b (with 0 (value_of b)) (suc k) bs (omega arith))
-      digits false e d h = absurd (omega arith)
+          let w = risen (suc k) b (with 0 (value_of b)) bs in
+          let z : suc (w.end - suc k) ≡ w.end - k = omega (arith, risen_low (suc k) b (with 0 (value_of b)) bs) in
+          let same : w ≡ risen k 48 0 (b ∷ bs) = rw e in
+          goes_on (map (viewing fs) (x ∷ xs)) k b bs (map (amid b (with 0 (value_of b)) fs) (x ∷ xs)) (view_digit fs b (x ∷ xs) d e) refl
+          ∙ digits-read b (with 0 (value_of b)) (suc k) bs (omega arith)
+          ∙ ap (λ (n : ℕ). read_from (past w) w.end (drop n (b ∷ bs))) z
+          ∙ ap (λ (y : Field). read_from (past y) y.end (drop (y.end - k) (b ∷ bs))) same
+      digits false e d = is_stuck (map (viewing fs) (x ∷ xs)) k b bs (view_other fs b (x ∷ xs) d e)
 
-      by : (t : Bool) → eqb b 45 ≡ t → k < (pick t (field (suc k) 0) (risen k 48 0 (b ∷ bs))).end
-          → read_from bad (map (viewing fs) (x ∷ xs)) k (b ∷ bs)
-          ≡ read_from bad (past (pick t (field (suc k) 0) (risen k 48 0 (b ∷ bs)))) (pick t (field (suc k) 0) (risen k 48 0 (b ∷ bs))).end (drop ((pick t (field (suc k) 0) (risen k 48 0 (b ∷ bs))).end - k) (b ∷ bs))
-      by true e h =
+      by : (t : Bool) → eqb b 45 ≡ t
+          → read_from (map (viewing fs) (x ∷ xs)) k (b ∷ bs)
+          ≡ (pick t (Ok (field (suc k) 0)) (pick (rises 48 b) (Ok (risen k 48 0 (b ∷ bs))) (bad (k + 1))) >>= λ w. read_from (past w) w.end (drop (w.end - k) (b ∷ bs)))
+      by true e =
           let z : suc k - k ≡ 1 = omega arith in
           let d : b ≡ 45 = eqb-true b 45 e in
-          rw (z, d) (goes_on bad (map (viewing fs) (x ∷ xs)) k 45 bs (past (field (suc k) 0)) (view_dash fs (x ∷ xs)) refl)
-      by false e h = digits (rises 48 b) refl (ne_eqb 45 b (λ s. true_is_not_false (sym (eq-eqb b 45 (sym s)) ∙ e))) h
+          rw (z, d) (goes_on (map (viewing fs) (x ∷ xs)) k 45 bs (past (field (suc k) 0)) (view_dash fs (x ∷ xs)) refl)
+      by false e = digits (rises 48 b) refl (ne_eqb 45 b (λ s. true_is_not_false (sym (eq-eqb b 45 (sym s)) ∙ e)))
 
-  -- none is
-  pub no_view_read : (k : ℕ) (m : List ℕ) → (view_from k m).end ≤ k → read_from bad (map (viewing fs) (x ∷ xs)) k m ≡ bad (k + 1)
-  unfolding view_from risen pick
-  no_view_read k [] h = breaks_off bad (map (viewing fs) (x ∷ xs)) k (view_ended fs (x ∷ xs))
-  no_view_read k (b ∷ bs) h = by (eqb b 45) refl h
-    where
-      digits : (t : Bool) → rises 48 b ≡ t → eqb 45 b ≡ false → (pick t (risen (suc k) b (with 0 (value_of b)) bs) (field k 0)).end ≤ k
-          → read_from bad (map (viewing fs) (x ∷ xs)) k (b ∷ bs) ≡ bad (k + 1)
-      digits true e d h = absurd (omega (arith, risen_low (suc k) b (with 0 (value_of b)) bs))
-      digits false e d h = is_stuck bad (map (viewing fs) (x ∷ xs)) k b bs (view_other fs b (x ∷ xs) d e)
+-- for the functions of parse.rt: the loop over a form, the loop over digits, and a view
+pub ruleset form_steps = (form_done, line_done, byte_fits, byte_differs)
 
-      by : (t : Bool) → eqb b 45 ≡ t → (pick t (field (suc k) 0) (risen k 48 0 (b ∷ bs))).end ≤ k → read_from bad (map (viewing fs) (x ∷ xs)) k (b ∷ bs) ≡ bad (k + 1)
-      by true e h = absurd (omega arith)
-      by false e h = digits (rises 48 b) refl (ne_eqb 45 b (λ s. true_is_not_false (sym (eq-eqb b 45 (sym s)) ∙ e))) h
+pub ruleset digit_steps = (digits_end, digits_go_on, digits_fail)
+
+pub ruleset view_kinds = (dash_at, digits_at, nothing_at, first_from)

@@ -1,15 +1,15 @@
 -- Worked examples of a sheet's lines and of what a line says, with what is to come of each.
-use Rattle.std.specs.Prelude.{ℕ, List, [], ◌∷◌, ◌++◌, map}
+use Rattle.std.specs.Prelude.{ℕ, List, [], ◌∷◌, ◌++◌, map, Result, Ok, Err}
 use Prim.Native.String.{String}
 use Rattle.print.specs.Text.{bytes}
 use Rattle.plan.specs.declared.Action.{Action}
 use Rattle.plan.specs.declared.Action.TheVariants.{Report, Receive, Respond, Crash}
 use Rattle.plan.specs.Cut.{whole, cut_after}
-use Rattle.sheet.specs.declared.parse.Opening.{Opening}
-use Rattle.sheet.specs.declared.parse.Opening.TheVariants.{Bad as BadFirst, Fresh}
+use Rattle.sheet.specs.declared.parse.BadFrom.{BadFrom}
 use Rattle.sheet.specs.declared.parse.Line.{Line}
-use Rattle.sheet.specs.declared.parse.Line.TheVariants.{Bad, Step, Settle}
+use Rattle.sheet.specs.declared.parse.Line.TheVariants.{Step, Settle}
 use Rattle.sheet.specs.Lines.{lines_of}
+use Rattle.sheet.specs.Grammar.{bad_from}
 use Rattle.sheet.specs.Parse.{process, opened, parsed}
 
 -- ---- lines
@@ -48,32 +48,36 @@ infix 80 ◌says◌
 abbrev ◌says◌ : {A : Type 0} → String → A → Saying A
 s says x = record { line = bytes s; says = x }
 
-abbrev pub first_sayings : List (Saying Opening)
+-- bad from this column on
+abbrev bad : {A : Type 0} → ℕ → Result A BadFrom
+bad column = Err (bad_from column)
+
+abbrev pub first_sayings : List (Saying (Result ℕ BadFrom))
 first_sayings =
-    "u 1" says Fresh 1
-    ∷ "u 8" says Fresh 8
+    "u 1" says Ok 1
+    ∷ "u 8" says Ok 8
     -- a size is 1 to 8
-    ∷ "u 0" says BadFirst 3
-    ∷ "u 9" says BadFirst 3
-    ∷ "u x" says BadFirst 3
+    ∷ "u 0" says bad 3
+    ∷ "u 9" says bad 3
+    ∷ "u x" says bad 3
     -- breaking off
-    ∷ "" says BadFirst 1
-    ∷ "u" says BadFirst 2
-    ∷ "u " says BadFirst 3
+    ∷ "" says bad 1
+    ∷ "u" says bad 2
+    ∷ "u " says bad 3
     -- anything else
-    ∷ "u 12" says BadFirst 4
-    ∷ "u 1 " says BadFirst 4
-    ∷ "u 1\r" says BadFirst 4
-    ∷ " " says BadFirst 1
-    ∷ " u 1" says BadFirst 1
-    ∷ "u  1" says BadFirst 3
-    ∷ "u\t1" says BadFirst 2
-    ∷ "U 1" says BadFirst 1
-    ∷ "x" says BadFirst 1
-    ∷ "r 1 1" says BadFirst 1
-    ∷ "q" says BadFirst 1
+    ∷ "u 12" says bad 4
+    ∷ "u 1 " says bad 4
+    ∷ "u 1\r" says bad 4
+    ∷ " " says bad 1
+    ∷ " u 1" says bad 1
+    ∷ "u  1" says bad 3
+    ∷ "u\t1" says bad 2
+    ∷ "U 1" says bad 1
+    ∷ "x" says bad 1
+    ∷ "r 1 1" says bad 1
+    ∷ "q" says bad 1
     -- a fresh system is not cut
-    ∷ "u 2 cut 0" says BadFirst 4
+    ∷ "u 2 cut 0" says bad 4
     ∷ []
 
 -- lines that ask for a step, by the numbers in them
@@ -86,23 +90,23 @@ receive q p = Receive (process q) (process p)
 abbrev respond : ℕ → ℕ → Action
 respond p q = Respond (process p) (process q)
 
-abbrev reports : ℕ → ℕ → Line
-reports p v = Step (whole (report p v))
+abbrev reports : ℕ → ℕ → Result Line BadFrom
+reports p v = Ok (Step (whole (report p v)))
 
-abbrev receives : ℕ → ℕ → Line
-receives q p = Step (whole (receive q p))
+abbrev receives : ℕ → ℕ → Result Line BadFrom
+receives q p = Ok (Step (whole (receive q p)))
 
-abbrev responds : ℕ → ℕ → Line
-responds p q = Step (whole (respond p q))
+abbrev responds : ℕ → ℕ → Result Line BadFrom
+responds p q = Ok (Step (whole (respond p q)))
 
-abbrev crashes : ℕ → Line
-crashes p = Step (whole (Crash (process p)))
+abbrev crashes : ℕ → Result Line BadFrom
+crashes p = Ok (Step (whole (Crash (process p))))
 
 -- cut after so many messages
-abbrev is_cut : Action → ℕ → Line
-is_cut o k = Step (cut_after o k)
+abbrev is_cut : Action → ℕ → Result Line BadFrom
+is_cut o k = Ok (Step (cut_after o k))
 
-abbrev pub sayings : List (Saying Line)
+abbrev pub sayings : List (Saying (Result Line BadFrom))
 sayings =
     -- each form; a process may be any digit, 0 and 9 among them, at each place
     "r 1 1" says reports 1 1
@@ -119,7 +123,7 @@ sayings =
     ∷ "s 3" says crashes 3
     ∷ "s 0" says crashes 0
     ∷ "s 9" says crashes 9
-    ∷ "q" says Settle
+    ∷ "q" says Ok Settle
     -- cut after any digit
     ∷ "r 1 12 cut 3" says is_cut (report 1 3) 3
     ∷ "r 1 - cut 0" says is_cut (report 1 0) 0
@@ -129,88 +133,88 @@ sayings =
     ∷ "a 1 2 cut 1" says is_cut (respond 1 2) 1
     ∷ "a 0 9 cut 9" says is_cut (respond 0 9) 9
     -- a settling run stands alone
-    ∷ "q " says Bad 2
-    ∷ "q cut 0" says Bad 2
-    ∷ "qq" says Bad 2
-    ∷ "q 1" says Bad 2
-    ∷ "q\r" says Bad 2
+    ∷ "q " says bad 2
+    ∷ "q cut 0" says bad 2
+    ∷ "qq" says bad 2
+    ∷ "q 1" says bad 2
+    ∷ "q\r" says bad 2
     -- a view's digits are 1 to 8 and rise
-    ∷ "r 1 0" says Bad 5
-    ∷ "r 1 9" says Bad 5
-    ∷ "r 1 11" says Bad 6
-    ∷ "r 1 21" says Bad 6
-    ∷ "r 1 1358642" says Bad 9
-    ∷ "r 1 123456789" says Bad 13
-    ∷ "r 1 -1" says Bad 6
-    ∷ "r 1 1-" says Bad 6
-    ∷ "r 1 --" says Bad 6
+    ∷ "r 1 0" says bad 5
+    ∷ "r 1 9" says bad 5
+    ∷ "r 1 11" says bad 6
+    ∷ "r 1 21" says bad 6
+    ∷ "r 1 1358642" says bad 9
+    ∷ "r 1 123456789" says bad 13
+    ∷ "r 1 -1" says bad 6
+    ∷ "r 1 1-" says bad 6
+    ∷ "r 1 --" says bad 6
     -- breaking off
-    ∷ "" says Bad 1
-    ∷ "r" says Bad 2
-    ∷ "r " says Bad 3
-    ∷ "r 1" says Bad 4
-    ∷ "r 1 " says Bad 5
-    ∷ "t" says Bad 2
-    ∷ "t 1" says Bad 4
-    ∷ "t 1 " says Bad 5
-    ∷ "a 1" says Bad 4
-    ∷ "s" says Bad 2
-    ∷ "s " says Bad 3
+    ∷ "" says bad 1
+    ∷ "r" says bad 2
+    ∷ "r " says bad 3
+    ∷ "r 1" says bad 4
+    ∷ "r 1 " says bad 5
+    ∷ "t" says bad 2
+    ∷ "t 1" says bad 4
+    ∷ "t 1 " says bad 5
+    ∷ "a 1" says bad 4
+    ∷ "s" says bad 2
+    ∷ "s " says bad 3
     -- breaking off within ` cut K`
-    ∷ "t 1 2 " says Bad 7
-    ∷ "t 1 2 c" says Bad 8
-    ∷ "t 1 2 cut" says Bad 10
-    ∷ "a 1 2 cut" says Bad 10
-    ∷ "a 1 2 cut " says Bad 11
-    ∷ "r 1 1 " says Bad 7
-    ∷ "r 1 - cut" says Bad 10
+    ∷ "t 1 2 " says bad 7
+    ∷ "t 1 2 c" says bad 8
+    ∷ "t 1 2 cut" says bad 10
+    ∷ "a 1 2 cut" says bad 10
+    ∷ "a 1 2 cut " says bad 11
+    ∷ "r 1 1 " says bad 7
+    ∷ "r 1 - cut" says bad 10
     -- `u` comes only first
-    ∷ "u 1" says Bad 1
-    ∷ "u" says Bad 1
+    ∷ "u 1" says bad 1
+    ∷ "u" says bad 1
     -- nothing more, nothing else
-    ∷ "r 12 1" says Bad 4
-    ∷ "r 1  1" says Bad 5
-    ∷ "r 1 1 2" says Bad 7
-    ∷ "r 1 12 3" says Bad 8
-    ∷ "r 1 12cut 3" says Bad 7
-    ∷ "r 1 cut 3" says Bad 5
-    ∷ "r 1 1\r" says Bad 6
-    ∷ "r - 1" says Bad 3
-    ∷ "r1 1" says Bad 2
-    ∷ "t 1 23" says Bad 6
-    ∷ "t 1 a" says Bad 5
-    ∷ "t 1 2 x" says Bad 7
-    ∷ "t 1 2  cut 1" says Bad 7
-    ∷ "t 1 2 cut1" says Bad 10
-    ∷ "t 1 2 cut  1" says Bad 11
-    ∷ "t 1 2 cut x" says Bad 11
-    ∷ "t 1 2 cut 1 " says Bad 12
-    ∷ "t 1 2 Cut 1" says Bad 7
-    ∷ "t 1 cut 1" says Bad 5
-    ∷ "t 1 2\r" says Bad 6
-    ∷ "a - 2" says Bad 3
-    ∷ "a 1-2" says Bad 4
-    ∷ "a 1 2 cut 10" says Bad 12
-    ∷ "a 1 2 cut -" says Bad 11
-    ∷ "s 1 " says Bad 4
-    ∷ "s 1 2" says Bad 4
-    ∷ "s 1 cut 0" says Bad 4
-    ∷ "s 1\r" says Bad 4
-    ∷ "s x" says Bad 3
-    ∷ " " says Bad 1
-    ∷ " s 1" says Bad 1
-    ∷ "x 1 2" says Bad 1
-    ∷ "Q" says Bad 1
-    ∷ " q" says Bad 1
-    ∷ "S 1" says Bad 1
-    ∷ record { line = bytes "s " ++ (200 ∷ []); says = Bad 3 }
-    ∷ record { line = bytes "s 1" ++ (0 ∷ []); says = Bad 4 }
+    ∷ "r 12 1" says bad 4
+    ∷ "r 1  1" says bad 5
+    ∷ "r 1 1 2" says bad 7
+    ∷ "r 1 12 3" says bad 8
+    ∷ "r 1 12cut 3" says bad 7
+    ∷ "r 1 cut 3" says bad 5
+    ∷ "r 1 1\r" says bad 6
+    ∷ "r - 1" says bad 3
+    ∷ "r1 1" says bad 2
+    ∷ "t 1 23" says bad 6
+    ∷ "t 1 a" says bad 5
+    ∷ "t 1 2 x" says bad 7
+    ∷ "t 1 2  cut 1" says bad 7
+    ∷ "t 1 2 cut1" says bad 10
+    ∷ "t 1 2 cut  1" says bad 11
+    ∷ "t 1 2 cut x" says bad 11
+    ∷ "t 1 2 cut 1 " says bad 12
+    ∷ "t 1 2 Cut 1" says bad 7
+    ∷ "t 1 cut 1" says bad 5
+    ∷ "t 1 2\r" says bad 6
+    ∷ "a - 2" says bad 3
+    ∷ "a 1-2" says bad 4
+    ∷ "a 1 2 cut 10" says bad 12
+    ∷ "a 1 2 cut -" says bad 11
+    ∷ "s 1 " says bad 4
+    ∷ "s 1 2" says bad 4
+    ∷ "s 1 cut 0" says bad 4
+    ∷ "s 1\r" says bad 4
+    ∷ "s x" says bad 3
+    ∷ " " says bad 1
+    ∷ " s 1" says bad 1
+    ∷ "x 1 2" says bad 1
+    ∷ "Q" says bad 1
+    ∷ " q" says bad 1
+    ∷ "S 1" says bad 1
+    ∷ record { line = bytes "s " ++ (200 ∷ []); says = bad 3 }
+    ∷ record { line = bytes "s 1" ++ (0 ∷ []); says = bad 4 }
     ∷ []
 
-unfoldable pub said_first : Saying Opening → Opening
+unfoldable pub said_first : Saying (Result ℕ BadFrom) → Result ℕ BadFrom
 said_first x = opened x.line
 
-unfoldable pub said : Saying Line → Line
+unfoldable pub said : Saying (Result Line BadFrom) → Result Line BadFrom
 said x = parsed x.line
 
 abbrev pub expected_saying : {A : Type 0} → Saying A → A

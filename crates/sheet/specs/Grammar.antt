@@ -1,12 +1,13 @@
 -- Which lines are allowed, and where a line stops being one. A form is a text such as `t Q P`: a capital stands for a field, any
 -- other byte for itself. The lines allowed at a place are one list of forms (`Parse.antt`); all else here speaks of any list.
-use Rattle.std.specs.Prelude.{ℕ, zero, suc, ◌+◌, ◌-◌, Bool, true, false, ◌&&◌, eqb, leb, ltb, length, get_or, take}
+use Rattle.std.specs.Prelude.{ℕ, zero, suc, ◌+◌, ◌-◌, Bool, true, false, ◌&&◌, eqb, leb, ltb, length, get_or, take, Result, Ok, Err}
 use Prim.Native.Char.{Char, code}
 use Prim.Native.String.{String}
 use mathlib.Core.List.{List, [], ◌∷◌, ◌++◌, map, flat_map}
 use Rattle.view.specs.Logic.{pick}
 use Rattle.view.specs.View.{with}
 use Rattle.print.specs.Text.{bytes}
+use Rattle.sheet.specs.declared.parse.BadFrom.{BadFrom}
 
 -- ---- forms
 pub data Piece : Type 0 where
@@ -115,10 +116,13 @@ greatest (suc k) test = pick (test (suc k)) (suc k) (greatest k test)
 unfoldable pub column : {A : Type 0} → List (Form A) → List ℕ → ℕ
 column xs l = greatest (length l) (λ k. begins xs (take k l)) + 1
 
-unfoldable pub first_reading : {A : Type 0} → List A → A → A
-first_reading [] a = a
-first_reading (b ∷ rest) a = b
+abbrev pub bad_from : ℕ → BadFrom
+bad_from column = record { 0 = column }
+
+unfoldable pub first_reading : {A : Type 0} → List A → BadFrom → Result A BadFrom
+first_reading [] bad = Err bad
+first_reading (a ∷ rest) bad = Ok a
 
 -- what a line says that is allowed, and of any other that it is bad at its column
-unfoldable pub read : {A : Type 0} → (ℕ → A) → List (Form A) → List ℕ → A
-read bad xs l = first_reading (readings xs l) (bad (column xs l))
+unfoldable pub read : {A : Type 0} → List (Form A) → List ℕ → Result A BadFrom
+read xs l = first_reading (readings xs l) (bad_from (column xs l))

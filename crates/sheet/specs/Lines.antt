@@ -1,9 +1,8 @@
 -- The lines of a sheet: "Lines end with a line feed, which the last may lack."
-use Rattle.std.specs.Prelude.{ℕ, suc, ◌+◌, ◌-◌, Bool, List, [], ◌∷◌, eqb, ltb, length, drop}
+use Rattle.std.specs.Prelude.{ℕ, suc, ◌+◌, ◌-◌, Bool, List, [], ◌∷◌, Option, None, Some, eqb, ltb, length, drop}
 use Prim.Native.Char.{code}
 use Rattle.view.specs.Logic.{pick}
-use Rattle.sheet.specs.declared.lines.Found.{Found}
-use Rattle.sheet.specs.declared.lines.Found.TheVariants.{End, Span}
+use Rattle.sheet.specs.declared.lines.Span.{Span}
 
 abbrev pub is_feed : ℕ → Bool
 is_feed b = eqb b (code "\n")
@@ -29,10 +28,14 @@ line_length (b ∷ bs) = pick (is_feed b) 0 (suc (line_length bs))
 unfoldable pub next_place : List ℕ → ℕ → ℕ
 next_place s at = pick (ltb at (length s)) (at + line_length (drop at s) + 1) at
 
--- the line from a place up to the next line's: where it starts, where it ends, and where the next one starts
-unfoldable pub line_between : ℕ → ℕ → Found
-line_between at next = pick (ltb at next) (Span at (next - 1) next) End
+abbrev pub span : ℕ → ℕ → ℕ → Span
+span start end next = record { start = start; end = end; next = next }
+
+-- the line from a place up to the next line's: where it starts, where it ends, and where the next one starts; none where they are
+-- the same place
+unfoldable pub line_between : ℕ → ℕ → Option Span
+line_between at next = pick (ltb at next) (Some (span at (next - 1) next)) None
 
 -- the line at a place
-unfoldable pub line_at : List ℕ → ℕ → Found
+unfoldable pub line_at : List ℕ → ℕ → Option Span
 line_at s at = line_between at (next_place s at)

@@ -1,55 +1,42 @@
 // The lines of a sheet.
-ghost use Rattle.std.specs.Prelude.{◌≡◌, ◌+◌, drop};
+ghost use Rattle.std.specs.Prelude.{◌≡◌};
 ghost use Rattle.sheet.specs.Lines.{line_length, next_place, line_between};
 
-// What stands at a place of a sheet: a line, from start up to end, with the next line's place; or
-// nothing.
+// A line of a sheet: its bytes from `start` up to `end`, and the place of the next line.
 #[derive(Clone, Copy)]
-pub enum Found {
-    End,
-    Span {
-        start: usize,
-        end: usize,
-        next: usize,
-    },
+pub struct Span {
+    pub start: usize,
+    pub end: usize,
+    pub next: usize,
 }
 
-// Where the line ends that begins at a place: at its line feed, or where the sheet ends.
-fn line_end(s: &[u8], at: usize) -> usize
-    ensures { result ≡ at + line_length (drop at s.now) }
+// How many bytes the first line of a text has: those up to its line feed, or all.
+fn line_length(text: &[u8]) -> usize
+    ensures { result ≡ line_length text.now }
 {
-    let mut i = at;
-    while i < s.len() {
-        if s[i] == b'\n' {
-            return i;
-        }
-        i += 1;
-    }
-    i
+    text.iter().position(|b| *b == b'\n').unwrap_or(text.len())
 }
 
 // The place of the next line; past the last line, the same place.
+#[tactic(auto, using(crate::proofs::Laws::rest_within), unfolding(crate::specs::Lines::next_place, view::specs::Logic::pick))]
 pub fn next_place(s: &[u8], at: usize) -> usize
     ensures { result ≡ next_place s.now at }
 {
     if at < s.len() {
-        line_end(s, at) + 1
+        at + line_length(&s[at..]) + 1
     } else {
         at
     }
 }
 
-// The line from a place up to the next line's.
-pub fn line_between(at: usize, next: usize) -> Found
+// The line from a place up to the next line's, if there is one.
+#[tactic(auto, unfolding(crate::specs::Lines::line_between, view::specs::Logic::pick))]
+pub fn line_between(at: usize, next: usize) -> Option<Span>
     ensures { result ≡ line_between at next }
 {
-    if at < next {
-        Found::Span {
-            start: at,
-            end: next - 1,
-            next,
-        }
-    } else {
-        Found::End
-    }
+    (at < next).then(|| Span {
+        start: at,
+        end: next - 1,
+        next,
+    })
 }

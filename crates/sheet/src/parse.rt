@@ -1,25 +1,22 @@
 // What a line of a sheet says.
+#![tactic(auto, using(crate::proofs::FirstBytes::kinds), unfolding(view::specs::Logic::pick, print::specs::Text::bytes, crate::specs::Parse::stands, crate::specs::Parse::fits, crate::specs::Parse::digit_at, crate::specs::Parse::read_on, crate::specs::Parse::two_processes))]
+
 ghost use Rattle.std.specs.Prelude.{◌≡◌, ◌+◌, ◌<◌, ◌≤◌, length, get_or, drop};
-ghost use Rattle.sheet.specs.Parse.{opened, parsed, stands, fitting, column_from, digit_at, risen, view_from, read_on};
+ghost use Rattle.sheet.specs.Parse.{process, opened, parsed, stands, follow, fits, digit_at, risen, view_from, read_on, two_processes};
 
 use plan::{Action, Cut, Step};
-use view::{ProcessId, and, with};
+use view::{ProcessId, with};
 
-// The first line: `u N`, or bad, from this column on.
+// A line is bad from this column on, counted from 1.
 #[derive(Clone, Copy)]
-pub enum Opening {
-    Bad(usize),
-    // The fresh system of so many processes.
-    Fresh(u8),
-}
+pub struct BadFrom(pub usize);
 
-// Any other line: `r P VIEW`, `t Q P` and `a P Q`, each alone or with ` cut K`, `s P` and `q`; or bad,
-// from this column on.
+// What a line after the first asks for.
 #[derive(Clone, Copy)]
 pub enum Line {
-    Bad(usize),
+    // `r P VIEW`, `t Q P` and `a P Q`, each alone or with ` cut K`, and `s P`.
     Step(Step),
-    // The settling run.
+    // `q`: the settling run.
     Settle,
 }
 
@@ -27,47 +24,41 @@ pub enum Line {
 fn stands(f: u8, b: u8) -> bool
     ensures { result ≡ stands f b }
 {
-    if f == b'N' {
-        and(b'1' <= b, b <= b'8')
-    } else if and(b'A' <= f, f <= b'Z') {
-        and(b'0' <= b, b <= b'9')
-    } else {
-        f == b
+    match f {
+        b'N' => b'1' <= b && b <= b'8',
+        b'A'..=b'Z' => b.is_ascii_digit(),
+        _ => f == b,
     }
 }
 
-// The place up to which the line, from a place on, is as the form has it.
-fn reach(form: &[u8], l: &[u8], from: usize) -> usize
-    ensures { result ≡ from + fitting form.now (drop from l.now) }
+// A line and a place in it stay two parameters: as one struct they would be written out at each call,
+// `Rest { line: l, from: 1 }.follow(b" P ")`.
+
+// The place after a form that the line follows from a place on.
+#[tactic(auto, using(crate::proofs::Parsing::form_steps))]
+fn follow(form: &[u8], l: &[u8], from: usize) -> Result<usize, BadFrom>
+    requires { from ≤ length l.now }
+    ensures { result ≡ follow form.now from (drop from l.now) }
 {
-    let mut i = 0;
-    let mut at = from;
-    while i < form.len() {
-        if l.len() <= at {
-            return at;
-        }
-        if stands(form[i], l[at]) {
-            i += 1;
-            at += 1;
-        } else {
-            return at;
+    for (i, f) in form.iter().enumerate() {
+        let at = from + i;
+        if at >= l.len() || !stands(*f, l[at]) {
+            return Err(BadFrom(at + 1));
         }
     }
-    at
+    Ok(from + form.len())
 }
 
-// The column from which on a line is bad that must be of the form from a place on; 0 where it is
-// good.
-fn column(form: &[u8], l: &[u8], from: usize) -> usize
-    requires { (length form.now ≤ 9) × (from ≤ 12) }
-    ensures { result ≡ column_from form.now l.now from }
+// The line is of a form from a place on, to its end.
+fn fits(form: &[u8], l: &[u8], from: usize) -> Result<(), BadFrom>
+    requires { from ≤ length l.now }
+    ensures { result ≡ fits form.now l.now from }
 {
-    let at = reach(form, l, from);
-    let end = from + form.len();
-    if and(at == end, l.len() == end) {
-        0
+    let end = follow(form, l, from)?;
+    if l.len() == end {
+        Ok(())
     } else {
-        at + 1
+        Err(BadFrom(end + 1))
     }
 }
 
@@ -75,12 +66,14 @@ fn column(form: &[u8], l: &[u8], from: usize) -> usize
 fn digit_at(l: &[u8], i: usize) -> u8
     ensures { result ≡ digit_at l.now i }
 {
-    if i < l.len() {
-        let b = l[i];
-        if b'0' <= b { b - b'0' } else { 0 }
-    } else {
-        0
-    }
+    l.get(i).map_or(0, |b| b.saturating_sub(b'0'))
+}
+
+// The process that the digit at a place names.
+fn process_at(l: &[u8], i: usize) -> ProcessId
+    ensures { result ≡ process (digit_at l.now i) }
+{
+    ProcessId(digit_at(l, i))
 }
 
 // A view, and the place where it ends.
@@ -91,177 +84,111 @@ struct Field {
 }
 
 // The rising digits from a place on.
+#[tactic(auto, using(crate::proofs::Parsing::digit_steps))]
 fn rising(l: &[u8], from: usize) -> Field
+    requires { from ≤ length l.now }
     ensures { result ≡ risen from 48 0 (drop from l.now) }
 {
     let mut last = b'0';
     let mut view: u8 = 0;
-    let mut end = from;
-    while end < l.len() {
+    for end in from..l.len() {
         let b = l[end];
-        if and(last < b, b <= b'8') {
-            view = with(view, ProcessId(b - b'0'));
-            last = b;
-        } else {
+        if b <= last || b'8' < b {
             return Field { end, view };
         }
-        end += 1;
+        view = with(view, ProcessId(b - b'0'));
+        last = b;
     }
-    Field { end, view }
+    Field { end: l.len(), view }
 }
 
-// The view that begins at a place; it ends there where none does.
-fn view_at(l: &[u8], from: usize) -> Field
+// The view that begins at a place.
+#[tactic(auto, using(crate::proofs::Parsing::view_kinds))]
+fn view_at(l: &[u8], from: usize) -> Result<Field, BadFrom>
+    requires { from ≤ length l.now }
     ensures { result ≡ view_from from (drop from l.now) }
 {
-    if from < l.len() {
-        if l[from] == b'-' {
-            Field {
-                end: from + 1,
-                view: 0,
-            }
-        } else {
-            rising(l, from)
-        }
-    } else {
-        Field { end: from, view: 0 }
+    match &l[from..] {
+        [b'-', ..] => Ok(Field {
+            end: from + 1,
+            view: 0,
+        }),
+        [b'1'..=b'8', ..] => Ok(rising(l, from)),
+        _ => Err(BadFrom(from + 1)),
     }
 }
 
-// What a first line says.
-pub fn parse_first(l: &[u8]) -> Opening
+// What a first line says: the size of the fresh system.
+pub fn parse_first(l: &[u8]) -> Result<u8, BadFrom>
     ensures { result ≡ opened l.now }
 {
-    let bad = column(b"u N", l, 0);
-    if bad == 0 {
-        Opening::Fresh(digit_at(l, 2))
-    } else {
-        Opening::Bad(bad)
-    }
+    fits(b"u N", l, 0)?;
+    Ok(digit_at(l, 2))
 }
 
 // What a line says whose action is read up to a place: it ends there, or ` cut K` follows.
-fn read_on(action: Action, l: &[u8], from: usize) -> Line
-    requires { from ≤ 12 }
+fn read_on(action: Action, l: &[u8], from: usize) -> Result<Line, BadFrom>
+    requires { from ≤ length l.now }
     ensures { result ≡ read_on action l.now from }
 {
-    if l.len() == from {
-        return Line::Step(Step {
-            action,
-            cut: Cut::Whole,
-        });
-    }
-    let bad = column(b" cut K", l, from);
-    if bad == 0 {
-        Line::Step(Step {
-            action,
-            cut: Cut::After(digit_at(l, from + 5)),
-        })
+    let cut = if l.len() == from {
+        Cut::Whole
     } else {
-        Line::Bad(bad)
-    }
+        fits(b" cut K", l, from)?;
+        Cut::After(digit_at(l, from + 5))
+    };
+    Ok(Line::Step(Step { action, cut }))
+}
+
+// The two processes of a line that goes on as `t Q P` and `a P Q` do.
+fn two_processes(l: &[u8]) -> Result<(ProcessId, ProcessId), BadFrom>
+    requires { 0 < length l.now }
+    ensures { result ≡ two_processes l.now }
+{
+    follow(b" P Q", l, 1)?;
+    Ok((process_at(l, 2), process_at(l, 4)))
 }
 
 // What a line says that begins with `r`.
-fn parse_report(l: &[u8]) -> Line
+fn parse_report(l: &[u8]) -> Result<Line, BadFrom>
     requires { (0 < length l.now) × (get_or l.now 0 0 ≡ 114) }
     ensures { result ≡ parsed l.now }
 {
-    let at = reach(b" P ", l, 1);
-    if at < 4 {
-        return Line::Bad(at + 1);
-    }
-    let field = view_at(l, 4);
-    if 4 < field.end {
-        read_on(
-            Action::Report(ProcessId(digit_at(l, 2)), field.view),
-            l,
-            field.end,
-        )
-    } else {
-        Line::Bad(5)
-    }
+    let at = follow(b" P ", l, 1)?;
+    let field = view_at(l, at)?;
+    read_on(Action::Report(process_at(l, 2), field.view), l, field.end)
 }
 
-// What a line says that begins with `t`.
-fn parse_receive(l: &[u8]) -> Line
-    requires { (0 < length l.now) × (get_or l.now 0 0 ≡ 116) }
-    ensures { result ≡ parsed l.now }
-{
-    let at = reach(b" Q P", l, 1);
-    if at < 5 {
-        return Line::Bad(at + 1);
-    }
-    read_on(
-        Action::Receive(ProcessId(digit_at(l, 2)), ProcessId(digit_at(l, 4))),
-        l,
-        5,
-    )
-}
-
-// What a line says that begins with `a`.
-fn parse_respond(l: &[u8]) -> Line
-    requires { (0 < length l.now) × (get_or l.now 0 0 ≡ 97) }
-    ensures { result ≡ parsed l.now }
-{
-    let at = reach(b" P Q", l, 1);
-    if at < 5 {
-        return Line::Bad(at + 1);
-    }
-    read_on(
-        Action::Respond(ProcessId(digit_at(l, 2)), ProcessId(digit_at(l, 4))),
-        l,
-        5,
-    )
-}
-
-// What a line says that begins with `s`.
-fn parse_crash(l: &[u8]) -> Line
+// What a line says that begins with `s`: a stop is not cut.
+fn parse_crash(l: &[u8]) -> Result<Line, BadFrom>
     requires { (0 < length l.now) × (get_or l.now 0 0 ≡ 115) }
     ensures { result ≡ parsed l.now }
 {
-    let bad = column(b" P", l, 1);
-    if bad == 0 {
-        Line::Step(Step {
-            action: Action::Crash(ProcessId(digit_at(l, 2))),
-            cut: Cut::Whole,
-        })
-    } else {
-        Line::Bad(bad)
-    }
-}
-
-// What a line says that begins with `q`.
-fn parse_settle(l: &[u8]) -> Line
-    requires { (0 < length l.now) × (get_or l.now 0 0 ≡ 113) }
-    ensures { result ≡ parsed l.now }
-{
-    if l.len() == 1 {
-        Line::Settle
-    } else {
-        Line::Bad(2)
-    }
+    fits(b" P", l, 1)?;
+    let action = Action::Crash(process_at(l, 2));
+    Ok(Line::Step(Step {
+        action,
+        cut: Cut::Whole,
+    }))
 }
 
 // What a line after the first says: its first byte chooses the form.
-pub fn parse(l: &[u8]) -> Line
+pub fn parse(l: &[u8]) -> Result<Line, BadFrom>
     ensures { result ≡ parsed l.now }
 {
-    if l.len() == 0 {
-        return Line::Bad(1);
-    }
-    let b = l[0];
-    if b == b't' {
-        parse_receive(l)
-    } else if b == b'a' {
-        parse_respond(l)
-    } else if b == b'r' {
-        parse_report(l)
-    } else if b == b's' {
-        parse_crash(l)
-    } else if b == b'q' {
-        parse_settle(l)
-    } else {
-        Line::Bad(1)
+    match l {
+        [b'r', ..] => parse_report(l),
+        [b't', ..] => {
+            let (q, p) = two_processes(l)?;
+            read_on(Action::Receive(q, p), l, 5)
+        }
+        [b'a', ..] => {
+            let (p, q) = two_processes(l)?;
+            read_on(Action::Respond(p, q), l, 5)
+        }
+        [b's', ..] => parse_crash(l),
+        [b'q'] => Ok(Line::Settle),
+        [b'q', ..] => Err(BadFrom(2)),
+        _ => Err(BadFrom(1)),
     }
 }

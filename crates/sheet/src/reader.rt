@@ -1,51 +1,66 @@
 // Document 01: "A sheet reader stays with the sheet it was opened on and gives out one line after
-// another." The work is done by `lines::next_place` and `lines::line_between`, on a plain slice and
-// numbers.
-ghost use Rattle.std.specs.Prelude.{◌≡◌};
+// another."
+ghost use Rattle.std.specs.Prelude.{◌≡◌, ◌≤◌, IfSome, length};
 ghost use Rattle.sheet.specs.Lines.{next_place, line_at};
 
-use crate::lines::{Found, line_between, next_place};
+use crate::lines::{Span, line_between, next_place};
 
+// A sheet, and the place of the line that is given out next.
 #[derive(Clone, Copy)]
 pub struct SheetReader<'a> {
     pub sheet: &'a [u8],
     pub at: usize,
 }
 
-// A reader at the start of a sheet.
-pub fn opened_on<'a>(sheet: &'a [u8]) -> SheetReader<'a>
-    ensures { (result.sheet ≡ sheet.entry) × (result.at ≡ 0) }
-{
-    SheetReader { sheet, at: 0 }
+impl<'a> SheetReader<'a> {
+    // A reader at the start of a sheet.
+    pub fn new(sheet: &'a [u8]) -> Self
+        ensures { (result.sheet ≡ sheet.entry) × (result.at ≡ 0) }
+    {
+        SheetReader { sheet, at: 0 }
+    }
+
+    // The reader at another place of its sheet.
+    pub fn moved(self, at: usize) -> Self
+        ensures { (result.sheet ≡ self.entry.sheet) × (result.at ≡ at) }
+    {
+        SheetReader {
+            sheet: self.sheet,
+            at,
+        }
+    }
+
+    // The reader on the next line; past the last line it stays where it is.
+    pub fn advanced(self) -> Self
+        ensures { (result.sheet ≡ self.entry.sheet) × (result.at ≡ next_place self.entry.sheet.now self.entry.at) }
+    {
+        self.moved(next_place(self.sheet, self.at))
+    }
+
+    // The line that the reader gives out: what it passes over as it advances.
+    #[tactic(auto, using(crate::proofs::Laws::in_sheet), unfolding(crate::specs::Lines::line_at))]
+    pub fn current(self) -> Option<Span>
+        ensures line { result ≡ line_at self.entry.sheet.now self.entry.at }
+        ensures within { IfSome result (λ l. (l.start ≤ l.end) × (l.end ≤ length self.entry.sheet.now)) }
+    {
+        line_between(self.at, self.advanced().at)
+    }
 }
 
-// The reader at another place of its sheet.
-pub fn moved<'a>(r: SheetReader<'a>, at: usize) -> SheetReader<'a>
-    ensures { (result.sheet ≡ r.entry.sheet) × (result.at ≡ at) }
-{
-    SheetReader { sheet: r.sheet, at }
-}
+impl<'a> Iterator for SheetReader<'a> {
+    ghost use Rattle.std.specs.Iterator.{item_count};
+    ghost use Rattle.sheet.specs.Reader.{lines_left, GivesLine};
 
-// The reader on the next line; past the last line it stays where it is.
-pub fn advanced<'a>(r: SheetReader<'a>) -> SheetReader<'a>
-    ensures { (result.sheet ≡ r.entry.sheet) × (result.at ≡ next_place r.entry.sheet.now r.entry.at) }
-{
-    let at = next_place(r.sheet, r.at);
-    SheetReader { sheet: r.sheet, at }
-}
+    type Item = &'a [u8];
 
-// The line that the reader gives out: what it passes over as it advances.
-pub fn current<'a>(r: SheetReader<'a>) -> Found
-    ensures { result ≡ line_at r.entry.sheet.now r.entry.at }
-{
-    let next = advanced(r);
-    line_between(r.at, next.at)
-}
+    ghost next_gives = { GivesLine };
 
-// The line at a place, and the next line's place, read through a reader. The contract speaks of no
-// reader: whoever calls this needs no proof by hand.
-pub fn read_line(s: &[u8], at: usize) -> Found
-    ensures { result ≡ line_at s.now at }
-{
-    current(moved(opened_on(s), at))
+    ghost remaining = { item_count lines_left };
+
+    #[tactic(auto, using(crate::proofs::Laws::line_found, crate::proofs::Laws::none_found))]
+    fn next(&mut self) -> Option<&'a [u8]> {
+        let line = self.current()?;
+        self.at = line.next;
+        Some(&self.sheet[line.start..line.end])
+    }
 }

@@ -1,15 +1,17 @@
--- `class::adds`: by the finding.
-use Rattle.class.specs.Class.{adds_of}
+-- `class::adds`: by whether a sheet was counted.
+use Rattle.std.proofs.Common.{◌≡◌}
+use Rattle.std.specs.Prelude.{Ok, Err}
+use Rattle.std.specs.Result.{ResultUnwrapsOrElse}
+use Rattle.tallies.specs.declared.Tally.{Tally}
+use Rattle.tallies.specs.Tally.{no_tally}
+use Rattle.run.proofs.Laws.{nothing_yet}
+use Rattle.class.specs.Class.{Finding, adds_of}
 use Rattle.class.proofs.adds.Goals as goal
 
-pub returns-in-Unopened : goal.returns-in-Unopened
+by_finding : (New : Tally → Type 0) → ((t : Tally) → New t → t ≡ no_tally) → (f : Finding) (t : Tally) → ResultUnwrapsOrElse f New t → t ≡ adds_of f
 unfolding adds_of
-returns-in-Unopened c = rw c.in-Unopened.is c.none.ensures
+by_finding New none (Ok a) t e = e
+by_finding New none (Err why) t e = none t e
 
-pub returns-in-TooLong : goal.returns-in-TooLong
-unfolding adds_of
-returns-in-TooLong c = rw c.in-TooLong.is c.none-in-TooLong.ensures
-
-pub returns-in-Counted : goal.returns-in-Counted
-unfolding adds_of
-returns-in-Counted c = rw c.in-Counted.is
+pub returns : goal.returns
+returns c = by_finding _ (λ t e. nothing_yet t e) _ _ c.unwrap_or_default.ensures

@@ -2,11 +2,10 @@
 use Rattle.class.specs.Class.{lined_as, lined}
 use Rattle.class.proofs.print_name.Goals as goal
 
-pub returns : goal.returns
+pub returns-clause-line : goal.returns-clause-line
 unfolding lined lined_as
-returns c =
-    let found = c.find-finding.ensures in
-    let adds = c.adds.ensures in (
-      rw (← found) c.print_line-end.ensures,
-      rw (← found, ← adds) c.added-after.ensures,
-    )
+returns-clause-line c = rw (← c.find-finding.ensures) c.print_line.ensures
+
+pub returns-clause-total : goal.returns-clause-total
+unfolding lined lined_as
+returns-clause-total c = rw (← c.find-finding.ensures, ← c.adds.ensures) c.add.ensures

@@ -16,10 +16,10 @@ link_turn-process_turn-total-requires t c =
     (omega (arith, c.decreases), shallower _ _ _ _ c.requires c.requires.long c.requires.sound)
 
 pub link_turn-loop-k-init : goal.link_turn-loop-k-init
-link_turn-loop-k-init t c = (omega arith, c.image_buffer-copied.ensures, c.process_turn-total.ensures ∙ sym (no_move _ _ _ _))
+link_turn-loop-k-init t c = (c.blank_image-copied.ensures.long, c.process_turn-total.ensures ∙ sym (no_move _ _ _ _))
 
-pub link_turn-overflow_mul-n : goal.link_turn-overflow_mul-n
-link_turn-overflow_mul-n t c = omega (arith, few_link_moves _ _ c.requires.few c.moves_at-each.ensures)
+pub link_turn-overflow_mul-k-end : goal.link_turn-overflow_mul-k-end
+link_turn-overflow_mul-k-end t c = omega (arith, few_link_moves _ _ c.requires.few c.moves_at-each.ensures)
 
 pub link_turn-link_move-requires : goal.link_turn-link_move-requires
 link_turn-link_move-requires t c =
@@ -28,38 +28,34 @@ link_turn-link_move-requires t c =
 
 pub link_turn-process_turn-requires : goal.link_turn-process_turn-requires
 link_turn-process_turn-requires t c =
-    (omega (arith, c.decreases), shallower _ _ _ _ c.requires (c.try_move.auto.copied ∙ c.loop-k.invariant.1) c.try_move.ensures.stays)
+    (omega (arith, c.decreases), shallower _ _ _ _ c.requires (c.try_move.auto.copied ∙ c.loop-k.invariant.0) c.try_move.ensures.stays)
 
-pub link_turn-together-total-requires : goal.link_turn-together-total-requires
-link_turn-together-total-requires t c =
+pub link_turn-add-total-requires : goal.link_turn-add-total-requires
+link_turn-add-total-requires t c =
     sum_fits _ _ _ _ _
     (λ s. seven _ _ (omega (arith, c.requires.shallow)) ((turns_few _ _ c.requires.few).1 s))
     (omega (arith, c.loop-k-test.true, few_link_moves _ _ c.requires.few c.moves_at-each.ensures))
-    _ _ c.loop-k.invariant.2 _ c.process_turn.ensures
-
-pub link_turn-overflow_add-k : goal.link_turn-overflow_add-k
-link_turn-overflow_add-k t c = omega (arith, c.loop-k-test.true, few_link_moves _ _ c.requires.few c.moves_at-each.ensures)
-
-pub link_turn-loop-k-smaller : goal.link_turn-loop-k-smaller
-link_turn-loop-k-smaller t c = omega (arith, c.loop-k-test.true)
+    _ _ c.loop-k.invariant.1 _ c.process_turn.ensures
 
 pub link_turn-loop-k-preserved : goal.link_turn-loop-k-preserved
 link_turn-loop-k-preserved t c =
     let i = c.loop-k.invariant in (
-      omega (arith, c.loop-k-test.true),
-      c.try_move.auto.copied ∙ i.1,
+      c.try_move.auto.copied ∙ i.0,
       elim c.if-try_move.branch [
-        | link_turn-then-try_move w ↦ w.total-is ∙ w.together-total.ensures ∙ move_done _ _ _ _ _ _ _ _ c.try_move.ensures c.link_move.ensures _ i.2 w.if-try_move.true _ w.process_turn.ensures
-        | link_turn-else-try_move w ↦ w.total-is ∙ move_refused _ _ _ _ _ _ _ _ c.try_move.ensures c.link_move.ensures _ i.2 w.if-try_move.false
+        | link_turn-then-try_move w ↦ w.total-is ∙ w.add-total.ensures ∙ move_done _ _ _ _ _ _ _ _ c.try_move.ensures c.link_move.ensures _ i.1 w.if-try_move.true _ w.process_turn.ensures
+        | link_turn-else-try_move w ↦ w.total-is ∙ move_refused _ _ _ _ _ _ _ _ c.try_move.ensures c.link_move.ensures _ i.1 w.if-try_move.false
       ],
     )
 
 pub link_turn-returns : goal.link_turn-returns
 link_turn-returns t c =
-    c.loop-k.invariant.2
-    ∙ ap (run_counts_of _) (link_whole _ _ _ _ _ c.if-depth-eq0.false c.requires.few c.moves_at-each.ensures (omega (arith, c.loop-k-test.false, c.loop-k.invariant.0)))
+    c.loop-k.invariant.1
+    ∙ ap (run_counts_of _) (link_whole _ _ _ _ _ c.if-depth-eq0.false c.requires.few c.moves_at-each.ensures (omega (arith, c.loop-k-test.false, c.loop-k.auto.k-end)))
 
 -- ---- the processes' turn
+pub process_turn-overflow_mul-k-end-2 : goal.process_turn-overflow_mul-k-end-2
+process_turn-overflow_mul-k-end-2 t c = omega (arith, few_process_moves c.args.n c.requires.few)
+
 pub process_turn-returns-then-depth-eq0 : goal.process_turn-returns-then-depth-eq0
 process_turn-returns-then-depth-eq0 t c = c.end_of.ensures ∙ ap (run_counts_of _) (sym (last_process _ _ _ c.if-depth-eq0.true))
 
@@ -68,34 +64,30 @@ process_turn-link_turn-total-requires t c =
     (omega (arith, c.decreases), shallower _ _ _ _ c.requires c.requires.long c.requires.sound)
 
 pub process_turn-loop-k-init : goal.process_turn-loop-k-init
-process_turn-loop-k-init t c = (omega arith, c.image_buffer-copied.ensures, c.link_turn-total.ensures ∙ sym (no_move _ _ _ _))
+process_turn-loop-k-init t c = (c.blank_image-copied.ensures.long, c.link_turn-total.ensures ∙ sym (no_move _ _ _ _))
 
 pub process_turn-link_turn-requires : goal.process_turn-link_turn-requires
 process_turn-link_turn-requires t c =
-    (omega (arith, c.decreases), shallower _ _ _ _ c.requires (c.try_move.auto.copied ∙ c.loop-k.invariant.1) c.try_move.ensures.stays)
+    (omega (arith, c.decreases), shallower _ _ _ _ c.requires (c.try_move.auto.copied ∙ c.loop-k.invariant.0) c.try_move.ensures.stays)
 
-pub process_turn-together-total-requires : goal.process_turn-together-total-requires
-process_turn-together-total-requires t c =
+pub process_turn-add-total-requires : goal.process_turn-add-total-requires
+process_turn-add-total-requires t c =
     sum_fits _ _ _ _ _
     (λ s. seven _ _ (omega (arith, c.requires.shallow)) ((turns_few _ _ c.requires.few).0 s))
     (omega (arith, c.loop-k-test.true, few_process_moves c.args.n c.requires.few))
-    _ _ c.loop-k.invariant.2 _ c.link_turn.ensures
-
-pub process_turn-loop-k-smaller : goal.process_turn-loop-k-smaller
-process_turn-loop-k-smaller t c = omega (arith, c.loop-k-test.true)
+    _ _ c.loop-k.invariant.1 _ c.link_turn.ensures
 
 pub process_turn-loop-k-preserved : goal.process_turn-loop-k-preserved
 process_turn-loop-k-preserved t c =
     let i = c.loop-k.invariant in (
-      omega (arith, c.loop-k-test.true),
-      c.try_move.auto.copied ∙ i.1,
+      c.try_move.auto.copied ∙ i.0,
       elim c.if-try_move.branch [
-        | process_turn-then-try_move w ↦ w.total-is ∙ w.together-total.ensures ∙ move_done _ _ _ _ _ _ _ _ c.try_move.ensures c.process_move.ensures _ i.2 w.if-try_move.true _ w.link_turn.ensures
-        | process_turn-else-try_move w ↦ w.total-is ∙ move_refused _ _ _ _ _ _ _ _ c.try_move.ensures c.process_move.ensures _ i.2 w.if-try_move.false
+        | process_turn-then-try_move w ↦ w.total-is ∙ w.add-total.ensures ∙ move_done _ _ _ _ _ _ _ _ c.try_move.ensures c.process_move.ensures _ i.1 w.if-try_move.true _ w.link_turn.ensures
+        | process_turn-else-try_move w ↦ w.total-is ∙ move_refused _ _ _ _ _ _ _ _ c.try_move.ensures c.process_move.ensures _ i.1 w.if-try_move.false
       ],
     )
 
 pub process_turn-returns : goal.process_turn-returns
 process_turn-returns t c =
-    c.loop-k.invariant.2
-    ∙ ap (run_counts_of _) (process-whole _ _ _ _ c.if-depth-eq0.false c.requires.few (omega (arith, c.loop-k-test.false, c.loop-k.invariant.0)))
+    c.loop-k.invariant.1
+    ∙ ap (run_counts_of _) (process-whole _ _ _ _ c.if-depth-eq0.false c.requires.few (omega (arith, c.loop-k-test.false, c.loop-k.auto.k-end)))

@@ -1,5 +1,5 @@
 -- The two turns call each other, depth falling at each call. After k turns of a loop the total is that of the pass and the first k moves.
-use Prim.Native.Nat.{◌-◌, ◌*◌, ◌≤◌}
+use Prim.Native.Nat.{◌-◌}
 use mathlib.Core.Path.{◌≡◌}
 use lib.ListN.{length}
 use Rattle.image.specs.Image.{image_width, system_in}
@@ -16,18 +16,10 @@ decreases-process_turn l = l.depth
 
 abbrev pub invariant-link_turn-loop-k : goal.invariant-link_turn-loop-k
 invariant-link_turn-loop-k l =
-    (l.k ≤ l.n * l.each)
-    × (length l.copied ≡ image_width)
+    (length l.copied ≡ image_width)
     × (l.total ≡ run_counts_of l.n (turned (λ t. process_turn (l.depth - 1) l.n t) (system_in l.image) (numbered (link_move_at l.each) l.k)))
-
-abbrev pub decreases-link_turn-loop-k : goal.decreases-link_turn-loop-k
-decreases-link_turn-loop-k l = l.n * l.each - l.k
 
 abbrev pub invariant-process_turn-loop-k : goal.invariant-process_turn-loop-k
 invariant-process_turn-loop-k l =
-    (l.k ≤ 2 * l.n * l.n)
-    × (length l.copied ≡ image_width)
+    (length l.copied ≡ image_width)
     × (l.total ≡ run_counts_of l.n (turned (λ t. link_turn (l.depth - 1) l.n t) (system_in l.image) (numbered (process_move_at l.n) l.k)))
-
-abbrev pub decreases-process_turn-loop-k : goal.decreases-process_turn-loop-k
-decreases-process_turn-loop-k l = 2 * l.n * l.n - l.k

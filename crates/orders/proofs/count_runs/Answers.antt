@@ -1,30 +1,21 @@
 -- `orders::count_runs`: by the refusals.
-use mathlib.Core.Path.{sym, ◌∙◌}
+use Rattle.std.proofs.Common.{refl, sym, ◌∙◌}
 use Rattle.view.specs.Logic.{pick}
 use Rattle.orders.specs.Orders.{walked}
-use Rattle.orders.proofs.Moves.{walkable}
+use Rattle.orders.proofs.Moves.{walkable, none_too_deep, some_too_deep}
 use Rattle.orders.proofs.count_runs.Goals as goal
 
-pub walk-found-requires : goal.walk-found-requires
-walk-found-requires c =
-    walkable c.args.n c.args.depth (sym c.and.ensures ∙ c.if-and.true) (sym c.and-then-and.ensures ∙ c.if-and-2.true)
+pub walk-requires : goal.walk-requires
+walk-requires c = walkable _ _ (sym c.is_one_of.ensures ∙ c.if-not-is_one_of.false) (none_too_deep c.args.n c.args.depth c.if-n-depth.false)
 
-pub returns-then-and-2 : goal.returns-then-and-2
+pub returns-then-not-is_one_of : goal.returns-then-not-is_one_of
 unfolding walked pick
-returns-then-and-2 c =
-    simp (
-      ← c.walk-found.ensures,
-      ← c.and-then-and.ensures,
-      c.if-and-2.true,
-      ← c.and.ensures,
-      c.if-and.true,
-    )
+returns-then-not-is_one_of c = rw (← c.is_one_of.ensures, c.if-not-is_one_of.true) refl
 
-pub returns-else-and-2 : goal.returns-else-and-2
+pub returns-then-n-depth : goal.returns-then-n-depth
 unfolding walked pick
-returns-else-and-2 c =
-    simp (← c.and-then-and.ensures, c.if-and-2.false, ← c.and.ensures, c.if-and.true)
+returns-then-n-depth c = rw (← c.is_one_of.ensures, c.if-not-is_one_of.false, some_too_deep c.args.n c.args.depth c.if-n-depth.true) refl
 
-pub returns-else-and : goal.returns-else-and
+pub returns-else-n-depth : goal.returns-else-n-depth
 unfolding walked pick
-returns-else-and c = simp (← c.and.ensures, c.if-and.false)
+returns-else-n-depth c = rw (← c.is_one_of.ensures, c.if-not-is_one_of.false, none_too_deep c.args.n c.args.depth c.if-n-depth.false, c.walk.ensures) refl

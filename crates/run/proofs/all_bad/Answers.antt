@@ -1,37 +1,28 @@
 -- `run::all_bad`: what is on the page, then the rest of the lines, is the whole.
-use Prim.Native.Nat.{◌-◌}
-use mathlib.Core.Path.{refl, ◌∙◌}
-use native.Mathlib.Omega.{arith}
-use Rattle.run.proofs.Laws.{line_there, no_line_there, bad_begins, bad_again, bad_end}
+use Rattle.std.proofs.Common.{◌≡◌, [], inl, inr, ap, ◌∙◌, refl, length, arith}
+use Rattle.std.specs.Iterator.Adapters.{zip_second}
+use Rattle.sheet.specs.Reader.{lines_left}
+use Rattle.run.proofs.Laws.{few_left, bad_begins, bad_again, bad_end}
 use Rattle.run.proofs.all_bad.Goals as goal
 
-pub loop-start-init : goal.loop-start-init
-loop-start-init c = (c.requires, omega arith, refl, refl)
+pub loop-number-init : goal.loop-number-init
+loop-number-init c =
+    rw (c.into_iter-number-iterator.ensures.into_iter_gives, c.zip-number-items.ensures.first, c.zip-number-items.ensures.second)
+    (record { can_next = (tt, tt); ends = tt; few = omega (arith, c.requires, few_left c.args.lines.sheet.now c.args.lines.at); printed = refl })
 
-pub returns-in-End : goal.returns-in-End
-returns-in-End c =
-    let l = c.loop-start in
-    let none = no_line_there _ _ c.read_line.ensures c.in-End.is in
-    bad_end _ _ c.args.sheet.now l.at _ none (bad_begins _ _ _ _ c.put_column-end.ensures ∙ l.invariant.2)
+pub loop-number-preserved : goal.loop-number-preserved
+loop-number-preserved c =
+    let i = c.loop-number.invariant in
+    let step = c.in-Some.ensures.steps in
+    record {
+      can_next = (tt, tt);
+      ends = tt;
+      few = let fewer = ap length step.1.0 in omega (arith, i.few, step.0);
+      printed = rw (step.0.1, step.0.0) (bad_again _ _ _ _ _ _ _ step.1.0 i.printed (rw (← step.0.0) c.column-in-loop-number.ensures));
+    }
 
-pub overflow_add-line : goal.overflow_add-line
-overflow_add-line c =
-    let i = c.loop-start.invariant in
-    let k = line_there c.read_line.ensures c.in-Span.is in
-    omega (arith, i.0, i.1, k.onward, k.last)
-
-pub loop-start-smaller : goal.loop-start-smaller
-loop-start-smaller c = let k = line_there c.read_line.ensures c.in-Span.is in omega (arith, k.onward, k.last)
-
-pub loop-start-preserved : goal.loop-start-preserved
-loop-start-preserved c =
-    let l = c.loop-start in
-    let k = line_there c.read_line.ensures c.in-Span.is in (
-      l.invariant.0,
-      omega (arith, l.invariant.1, k.onward),
-      bad_again _ _ _ _ _ _ _ _ _ k l.invariant.2 c.put_column-end-in-Span.ensures,
-      c.put_column-end-in-Span.auto.out ∙ l.invariant.3,
-    )
-
-pub shape_of-out-in-End : goal.shape_of-out-in-End
-shape_of-out-in-End c = c.loop-start.invariant.3 ∙ c.put_column-end.auto.out
+pub returns : goal.returns
+returns c =
+    let i = c.loop-number.invariant in
+    let none : lines_left (zip_second c.loop-number.number-iterator) ≡ [] = elim c.in-None.ensures.steps [ inl w ↦ absurd (omega (arith, i.few, w.1.0)) | inr w ↦ w.1.0.0 ] in
+    bad_end _ _ _ _ none (bad_begins _ _ _ _ c.column.ensures ∙ i.printed)
