@@ -2,24 +2,20 @@
 // standard output. Where the sheet cannot be read, nothing is written there.
 #![tactic(auto)]
 
-use input::{output_buffer, read_to_end, sheet_buffer};
+use input::{Failure, OUTPUT_ROOM, SHEET_ROOM, read_to_end, zeros};
+use std::io::Read;
 
-// Runs a sheet and writes all that is printed for it; answers whether that was done.
-fn run_and_write(rt: &impl Print, sheet: &[u8]) -> bool {
-    let mut out = output_buffer();
-    let n = run::print_sheet(sheet, &mut out);
-    rt.write_all(&out[..n]).is_ok()
+// Reads a sheet, runs it and writes all that is printed for it.
+fn run_sheet(stdin: &mut impl Read, rt: &impl Print) -> Result<(), Failure> {
+    let mut sheet = zeros::<SHEET_ROOM>();
+    let len = read_to_end(stdin, &mut sheet).map_err(|_| Failure::Unread("sheet"))?;
+    let mut out = zeros::<OUTPUT_ROOM>();
+    let end = run::print_sheet(&sheet[..len], &mut out);
+    rt.write_all(&out[..end]).map_err(|_| Failure::Unwritten)
 }
 
 fn main(rt: HostRuntime) {
-    let mut sheet = sheet_buffer();
-    let input = read_to_end(&mut rt.stdin(), &mut sheet);
-    if input.failed {
-        let _ = eprintln!(rt; "bench: the sheet cannot be read");
-        return;
-    }
-    let len = input.len;
-    if !run_and_write(&rt, &sheet[..len]) {
-        let _ = eprintln!(rt; "bench: the output cannot be written");
+    if let Err(failure) = run_sheet(&mut rt.stdin(), &rt) {
+        let _ = eprintln!(rt; "bench: {failure}");
     }
 }

@@ -1,7 +1,8 @@
 -- What is true of a buffer after input was read into it, and of a buffer newly made. What the world sends is free: how many bytes come,
 -- which they are, and whether a read fails. Everything else is fixed.
-use Rattle.std.specs.Prelude.{ℕ, ◌+◌, ◌≤◌, ◌<◌, ◌≡◌, Bool, true, List, length, get_or, take, drop}
+use Rattle.std.specs.Prelude.{ℕ, ◌+◌, ◌≤◌, ◌<◌, ◌≡◌, List, length, get_or, take, drop, Result, Ok, Err, IfErr}
 use Rattle.std.proofs.Math.Seq.{paste}
+use Rattle.input.specs.declared.ReadFailed.{ReadFailed}
 
 -- `&buf[..n]` is in bounds and has n bytes: what std's `read` promises of its count
 abbrev pub IsPrefixLen : ℕ → List ℕ → Type 0
@@ -12,17 +13,21 @@ pub record Zeros (n : ℕ) (buf : List ℕ) : Type 0 where
   pub long : n ≡ length buf
   pub zero_at : (i : ℕ) → get_or buf i 0 ≡ 0
 
--- one read, put at a place: so many of a chunk's bytes stand there, none of them after a read that fails
-pub record ReadAt (failed : Bool) (count at : ℕ) (before after chunk : List ℕ) : Type 0 where
+-- how many bytes have come, when the reading ended or a read failed
+abbrev pub read_len : Result ℕ ReadFailed → ℕ
+read_len (Ok n) = n
+read_len (Err e) = e.len
+
+-- one read, put at a place: so many of a chunk's bytes stand there
+pub record ReadAt (count at : ℕ) (before after chunk : List ℕ) : Type 0 where
   pub came : count ≤ length chunk
   pub fits : at + count ≤ length before
-  pub none : failed ≡ true → count ≡ 0
   pub stored : after ≡ paste before at chunk count
 
 -- the input's bytes are the buffer's first, as many as the count says; a read that fails leaves room, so that a full buffer is none;
 -- the bytes after them are as they were
-pub record Received (failed : Bool) (count : ℕ) (before after : List ℕ) : Type 0 where
-  pub counts : IsPrefixLen count after
+pub record Received (outcome : Result ℕ ReadFailed) (before after : List ℕ) : Type 0 where
+  pub counts : IsPrefixLen (read_len outcome) after
   pub long : length after ≡ length before
-  pub room : failed ≡ true → count < length before
-  pub kept : drop count after ≡ drop count before
+  pub room : IfErr outcome (λ e. e.len < length before)
+  pub kept : drop (read_len outcome) after ≡ drop (read_len outcome) before

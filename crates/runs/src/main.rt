@@ -2,25 +2,26 @@
 // number, to standard output. Where the input cannot be read, nothing is written there.
 #![tactic(auto)]
 
-use input::read_to_end;
+use input::{Failure, read_to_end};
+use std::io::Read;
 
-// Writes what is printed for an input; answers whether that was done.
-fn walk_and_write(rt: &impl Print, line: &[u8]) -> bool {
-    let mut out = [0u8; 42];
-    let n = runs_text::print_runs(line, &mut out);
-    rt.write_all(&out[..n]).is_ok()
+// Room for the line and one byte more, by which a longer input shows.
+const LINE_ROOM: usize = 5;
+
+// Room for what is printed for any line.
+const OUTPUT_ROOM: usize = 42;
+
+// Reads a line, does the walk that it asks for and writes all that is printed for it.
+fn run_line(stdin: &mut impl Read, rt: &impl Print) -> Result<(), Failure> {
+    let mut line = [0; LINE_ROOM];
+    let len = read_to_end(stdin, &mut line).map_err(|_| Failure::Unread("input"))?;
+    let mut out = [0; OUTPUT_ROOM];
+    let end = runs_text::print_runs(&line[..len], &mut out);
+    rt.write_all(&out[..end]).map_err(|_| Failure::Unwritten)
 }
 
 fn main(rt: HostRuntime) {
-    // Room for the line and one byte more, by which a longer input shows.
-    let mut line = [0u8; 5];
-    let input = read_to_end(&mut rt.stdin(), &mut line);
-    if input.failed {
-        let _ = eprintln!(rt; "runs: the input cannot be read");
-        return;
-    }
-    let len = input.len;
-    if !walk_and_write(&rt, &line[..len]) {
-        let _ = eprintln!(rt; "runs: the output cannot be written");
+    if let Err(failure) = run_line(&mut rt.stdin(), &rt) {
+        let _ = eprintln!(rt; "runs: {failure}");
     }
 }

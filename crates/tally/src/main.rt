@@ -2,13 +2,14 @@
 // what each sheet counts, and all of them together, to standard output.
 #![tactic(auto)]
 
-ghost use Rattle.std.specs.Prelude.{◌≤◌, ◌≡◌, length};
-ghost use Rattle.input.specs.Received.{IsPrefixLen};
+ghost use Rattle.std.specs.Prelude.{◌≤◌, ◌≡◌, length, drop, IfOk};
+ghost use Rattle.input.specs.declared.TheConstants.{CHUNK_ROOM};
+ghost use Rattle.input.specs.Received.{IsPrefixLen, read_len};
 
 use class::names::gather;
 use class::{NAME_LIMIT, line_buffer, print_all, print_name};
-use input::{Input, large_buffer, read_input, read_once, sheet_buffer};
-use std::fs;
+use input::{CHUNK_ROOM, Failure, ReadFailed, SHEET_ROOM, read_file, zeros};
+use print::Page;
 use std::io::Read;
 use std::rt::Files;
 use tallies::Tally;
@@ -20,202 +21,127 @@ const NAMES: u32 = 64;
 const CHUNK_LIMIT: u32 = 65_536;
 
 // Room for a name and one byte more, by which a long name shows.
-fn name_buffer() -> [u8; 256]
-    ensures { 256 ≡ length result }
-{
-    [0; 256]
-}
+const NAME_ROOM: usize = NAME_LIMIT + 1;
 
-// How the reading of a name ended: `len` of its bytes are kept; it was there, if only as an empty
-// line; the input has ended; a read has failed. The chunk's bytes from `at` up to `have` come next.
-#[derive(Clone, Copy)]
-struct NameRead {
+// The names, one to a line, as a reader gives them. The chunk's bytes from `at` up to `have` come next,
+// and then what the reader has left, unless its input has ended.
+// Tried std's buffered input: it reads a pipe byte by byte, so a long name takes too many reads.
+#[derive(Drop)]
+struct Names<R> {
+    reader: R,
+    chunk: [u8; CHUNK_ROOM],
     at: usize,
     have: usize,
-    len: usize,
-    found: bool,
-    last: bool,
-    failed: bool,
+    ended: bool,
+    name: [u8; NAME_ROOM],
+    ghost in_chunk: { have ≤ CHUNK_ROOM },
 }
 
-// The chunk's bytes from `at` up to `have` are not used up; or a read has failed.
-#[derive(Clone, Copy)]
-struct ChunkLeft {
-    at: usize,
-    have: usize,
-    failed: bool,
-}
-
-// Reads the next chunk, if the bytes of this one are used up. Where the input has ended, none come.
-fn more<R: Read>(names: &mut R, chunk: &mut [u8], at: usize, have: usize) -> ChunkLeft
-    requires { have ≤ length chunk.old }
-    ensures { result.have ≤ length chunk.new }
-{
-    if at < have {
-        return ChunkLeft {
-            at,
-            have,
-            failed: false,
-        };
-    }
-    match read_once(names, chunk) {
-        Some(got) => ChunkLeft {
-            at: 0,
-            have: got,
-            failed: false,
-        },
-        None => ChunkLeft {
+impl<R: Read> Names<R> {
+    fn new(reader: R) -> Names<R> {
+        Names {
+            reader,
+            chunk: zeros(),
             at: 0,
             have: 0,
-            failed: true,
-        },
+            ended: false,
+            name: zeros(),
+        }
+    }
+
+    // Reads the next chunk, if the bytes of this one are used up; answers whether there are any.
+    fn fill(&mut self) -> Result<bool, Failure> {
+        if self.at < self.have {
+            return Ok(true);
+        }
+        if self.ended {
+            return Ok(false);
+        }
+        self.have = self
+            .reader
+            .read(&mut self.chunk)
+            .map_err(|_| Failure::Unread("names"))?;
+        self.at = 0;
+        self.ended = self.have == 0;
+        Ok(!self.ended)
+    }
+
+    // Takes the bytes up to the next line feed, or the input's end: how many are kept of them. A name
+    // that takes more reads than there are turns counts as a read that failed.
+    #[tactic(auto, using(print::proofs::Typing::typing))]
+    fn take_name(&mut self) -> Result<usize, Failure>
+        ensures { IfOk result (λ len. len ≤ NAME_ROOM) }
+    {
+        let mut len = 0;
+        for _ in 0..CHUNK_LIMIT {
+            if !self.fill()? {
+                return Ok(len);
+            }
+            let mut name = Page::new(&mut self.name, len);
+            let next = gather(&self.chunk[..self.have], self.at, &mut name);
+            len = name.place();
+            self.at = next.unwrap_or(self.have);
+            if next.is_some() {
+                return Ok(len);
+            }
+        }
+        Err(Failure::Unread("names"))
+    }
+
+    // Lends the next name, if there is one.
+    fn next_name(&mut self) -> Result<Option<&[u8]>, Failure> {
+        if !self.fill()? {
+            return Ok(None);
+        }
+        let len = self.take_name()?;
+        Ok(Some(&self.name[..len]))
     }
 }
 
-// Reads the next name, from a chunk of which the bytes from `from` up to `until` are not used up. One
-// that takes more reads than there are turns counts as a read that failed.
-fn next_name<R: Read>(
-    names: &mut R,
-    chunk: &mut [u8],
-    from: usize,
-    until: usize,
-    name: &mut [u8],
-) -> NameRead
-    requires { until ≤ length chunk.old }
-    ensures { (result.have ≤ length chunk.new) × (result.len ≤ length name.new) }
+// Opens and reads a sheet. A name that is too long is not tried, and one that is not UTF-8 is no path to
+// the library: each counts as a read that failed.
+fn read_sheet(files: &impl Files, name: &[u8], buf: &mut [u8]) -> Result<usize, ReadFailed>
+    ensures { IsPrefixLen (read_len result) buf.new }
 {
-    let mut at = from;
-    let mut have = until;
-    let mut len = 0;
-    let mut found = false;
-    for _ in 0..CHUNK_LIMIT {
-        let input = more(names, chunk, at, have);
-        have = input.have;
-        if have == 0 {
-            return NameRead {
-                at: 0,
-                have,
-                len,
-                found,
-                last: true,
-                failed: input.failed,
-            };
-        }
-        let taken = gather(&chunk[..have], input.at, name, len);
-        at = taken.next;
-        len = taken.len;
-        found = true;
-        if taken.ended {
-            return NameRead {
-                at,
-                have,
-                len,
-                found,
-                last: false,
-                failed: false,
-            };
-        }
-    }
-    NameRead {
-        at: 0,
-        have: 0,
-        len,
-        found,
-        last: true,
-        failed: true,
-    }
-}
-
-// Opens and reads a sheet. One that is not tried, or cannot be opened, counts as a read that failed. A
-// path is text to the library, so a name that is not UTF-8 cannot be opened.
-fn read_sheet(files: &impl Files, name: &[u8], buf: &mut [u8]) -> Input
-    ensures { IsPrefixLen result.len buf.new }
-{
-    let unread = Input {
-        failed: true,
-        len: 0,
-    };
+    let unread = ReadFailed { len: 0 };
     if NAME_LIMIT < name.len() {
-        return unread;
+        return Err(unread);
     }
-    match str::from_utf8(name) {
-        Err(_) => unread,
-        Ok(path) => match fs::open(files, path) {
-            Err(_) => unread,
-            Ok(mut file) => read_input(&mut file, buf),
-        },
-    }
+    let path = str::from_utf8(name).map_err(|_| unread)?;
+    read_file(files, path, buf)
 }
 
-// Whether the line of a name was written, and the class's tally after it.
-#[derive(Clone, Copy)]
-struct NameDone {
-    written: bool,
-    total: Tally,
-}
-
-// Reads the sheet of a name and writes its line.
-fn tally_name(rt: &(impl Files + Print), total: Tally, name: &[u8]) -> NameDone {
-    let mut sheet = sheet_buffer();
-    let input = read_sheet(rt, name, &mut sheet);
-    let len = input.len;
+// Reads the sheet of a name and writes its line: the class's tally after it.
+fn tally_name(rt: &(impl Files + Print), total: Tally, name: &[u8]) -> Result<Tally, Failure> {
+    let mut room = zeros::<SHEET_ROOM>();
+    let sheet = match read_sheet(rt, name, &mut room) {
+        Ok(len) => Some(&room[..len]),
+        Err(_) => None,
+    };
     let mut out = line_buffer();
-    let line = print_name(total, name, !input.failed, &sheet[..len], &mut out);
-    let end = line.end;
-    let after = line.total;
-    NameDone {
-        written: rt.write_all(&out[..end]).is_ok(),
-        total: after,
-    }
+    let line = print_name(total, name, sheet, &mut out);
+    rt.write_all(&out[..line.end])
+        .map_err(|_| Failure::Unwritten)?;
+    Ok(line.total)
 }
 
-// Writes the last line, and answers whether that was done.
-fn write_all_line(rt: &impl Print, total: Tally) -> bool {
+// Writes a line for each name, and one for all of them together.
+fn tally_class(names: &mut Names<impl Read>, rt: &(impl Files + Print)) -> Result<(), Failure> {
+    let mut total = Tally::default();
+    for _ in 0..NAMES {
+        let Some(name) = names.next_name()? else {
+            break;
+        };
+        total = tally_name(rt, total, name)?;
+    }
     let mut out = line_buffer();
     let end = print_all(total, &mut out);
-    rt.write_all(&out[..end]).is_ok()
-}
-
-fn say_unwritten(rt: &impl Eprint) {
-    let _ = eprintln!(rt; "tally: the output cannot be written");
-}
-
-fn say_unread(rt: &impl Eprint) {
-    let _ = eprintln!(rt; "tally: the names cannot be read");
+    rt.write_all(&out[..end]).map_err(|_| Failure::Unwritten)
 }
 
 fn main(rt: HostRuntime) {
-    let mut names = rt.stdin();
-    let mut space = large_buffer();
-    let chunk: &mut [u8] = &mut space;
-    let mut kept = name_buffer();
-    let name: &mut [u8] = &mut kept;
-    let mut at = 0;
-    let mut have = 0;
-    let mut total = tallies::none();
-    for _ in 0..NAMES {
-        let read = next_name(&mut names, chunk, at, have, name);
-        if read.failed {
-            say_unread(&rt);
-            return;
-        }
-        if !read.found {
-            break;
-        }
-        let len = read.len;
-        let done = tally_name(&rt, total, &name[..len]);
-        if !done.written {
-            say_unwritten(&rt);
-            return;
-        }
-        total = done.total;
-        if read.last {
-            break;
-        }
-        at = read.at;
-        have = read.have;
-    }
-    if !write_all_line(&rt, total) {
-        say_unwritten(&rt);
+    let mut names = Names::new(rt.stdin());
+    if let Err(failure) = tally_class(&mut names, &rt) {
+        let _ = eprintln!(rt; "tally: {failure}");
     }
 }
