@@ -3,12 +3,12 @@ use Prim.Native.Nat.{ℕ, ◌≤◌}
 use mathlib.Core.Path.{◌≡◌, refl, sym, ◌∙◌}
 use mathlib.Core.List.{[]}
 use mathlib.Core.Logic.{◌⊎◌, inl, inr, ⊎_elim}
-use Rattle.view.specs.Logic.{is_one_of}
+use native.Mathlib.Omega.{arith}
 use Rattle.view.specs.View.{everyone}
-use Rattle.view.proofs.Laws.{true_is_not_false, by_pick}
+use Rattle.view.specs.Logic.{pick}
+use Rattle.view.proofs.Laws.{true_is_not_false}
 use Rattle.system.specs.declared.Process.{Process}
 use Rattle.system.specs.declared.System.{System}
-use Rattle.system.specs.declared.Outcome.{Outcome}
 use Rattle.system.specs.Process.{entry_at}
 use Rattle.system.specs.System.{no_process, variables_at, entry_in}
 use Rattle.system.specs.Fresh.{fresh_variables, fresh_process, fresh_system, fresh_of}
@@ -48,8 +48,8 @@ module _ (n : ℕ) where
 
 -- ---- the system that a fresh one of any size starts with
 started : (P : System → Type 0) → ((m : ℕ) → P (fresh_system m)) → (n : ℕ) → P (start n)
-unfolding fresh_of
-started P h n = by_pick (λ (o : Outcome). P o.system) (is_one_of 8 n) _ _ (λ e. h n) (λ e. h 0)
+unfolding fresh_of pick
+started P h n = grind arith
 
 pub start_reached : (n : ℕ) → Reached (start n) []
 start_reached = started (λ s. Reached s []) fresh_reached

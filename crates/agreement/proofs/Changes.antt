@@ -1,7 +1,7 @@
 -- Any effect of an honest change that sends honest messages keeps what is so of every system that steps reach, and the written
 -- entries. Whether all addressees are told, and whether the process stops, makes no difference.
 use Prim.Native.Nat.{ℕ, ◌≤◌, ◌<◌}
-use mathlib.Core.Path.{◌≡◌, refl, sym, ◌∙◌, subst}
+use mathlib.Core.Path.{◌≡◌, refl, sym, subst}
 use mathlib.Core.Bool.{Bool, true}
 use mathlib.Core.List.{List}
 use native.Mathlib.Omega.{arith}
@@ -10,11 +10,10 @@ use Rattle.view.specs.View.{has}
 use Rattle.view.proofs.Laws.{each_as}
 use Rattle.view.proofs.Sets.{has_none}
 use Rattle.channel.specs.declared.Message.{Message}
-use Rattle.system.specs.declared.Pending.{Pending}
 use Rattle.system.specs.declared.Variables.{Variables}
 use Rattle.system.specs.declared.Process.{Process}
 use Rattle.system.specs.declared.System.{System}
-use Rattle.system.specs.Process.{entry_at, pending_at}
+use Rattle.system.specs.Process.{entry_at, pending_at, Pending}
 use Rattle.system.specs.System.{process_at, variables_at, entry_in}
 use Rattle.plan.specs.declared.Change.{Change}
 use Rattle.plan.specs.Plan.{recording, no_message}
@@ -34,14 +33,7 @@ pub record Accepting (p next : ℕ) (old new : List Acceptance) : Type 0 where
 
 -- nothing is accepted, and Next stays
 pub accepting_none : {s : System} {acc : List Acceptance} → Reached s acc → (p : ℕ) → Accepting p (variables_at s p).next.0 acc acc
-accepting_none r p =
-    record {
-      grown = record { still = λ u v i a. a };
-      others = λ u v i h a. a;
-      passed = r.passed p;
-      member = r.member;
-      one_view = r.one_view;
-    }
+accepting_none r p = grind arith
 
 -- process p of s changes so; old was accepted before the step, and new is then
 pub record HonestChange (s : System) (old new : List Acceptance) (p : ℕ) (c : Change) : Type 0 where
@@ -58,8 +50,7 @@ pub recording_honest : {s : System} {old new : List Acceptance} {p : ℕ} {y : V
     → Own new p y
     → Recorded (variables_at s) q.0 d
     → HonestChange s old new p (recording y q d)
-recording_honest q d accepting later own recorded =
-    record { accepting = accepting; later = later; own = own; recorded = recorded; past = λ l. absurd (omega arith); entered = λ l. absurd (omega arith) }
+recording_honest q d accepting later own recorded = grind arith
 
 -- ---- later systems: the first entries stay, and every entry that is written
 pub record Since (s t : System) : Type 0 where
@@ -70,11 +61,7 @@ pub since_same : (s : System) → Since s s
 since_same s = record { first = λ p i l. refl; written = λ p i h. refl }
 
 pub since_then : {s t u : System} → Since s t → Since t u → Since s u
-since_then a b =
-    record {
-      first = λ p i l. b.first p i l ∙ a.first p i l;
-      written = λ p i h. b.written p i (λ z. h (sym (a.written p i h) ∙ z)) ∙ a.written p i h;
-    }
+since_then a b = grind arith
 
 -- ---- the effect
 module _ {s t : System} {left : ℕ → ℕ → List Message} {p : ℕ} {c : Change} {stops : Bool} {to : ℕ} {m : Message} (f : Effect s t left p c stops to m) where

@@ -306,7 +306,7 @@ module _ (s : System) (acc : List Acceptance) (r : Reached s acc) where
 
   fed_at : (b : Book) (i k : ℕ) → 2 ≤ i → i ≤ 32 → k ≤ 8 → Feeding b → b.last ≤ i → Fed b (fed_all acc b (candidates_at i k)) i (UpTo i k)
   unfolding candidates_at fed_all
-  fed_at b i zero l h u f o = record { feeding = f; last = o; kept = λ w j e. e; in_book = λ w j q. absurd (omega arith) }
+  fed_at b i zero l h u f o = grind arith
   fed_at b i (suc k) l h u f o =
       let before = fed_at b i k l h (omega arith) f o in
       let c = fed_all acc b (candidates_at i k) in
@@ -326,7 +326,7 @@ module _ (s : System) (acc : List Acceptance) (r : Reached s acc) where
 
   pub fed_through : (b : Book) (m : ℕ) → m ≤ 31 → Feeding b → b.last ≤ 1 → Fed b (fed_all acc b (candidates m)) (suc m) (Through m)
   unfolding candidates fed_all
-  fed_through b zero h f o = record { feeding = f; last = o; kept = λ w j e. e; in_book = λ w j q. absurd (omega arith) }
+  fed_through b zero h f o = grind arith
   fed_through b (suc m) h f o =
       let before = fed_through b m (omega arith) f o in
       let c = fed_all acc b (candidates m) in

@@ -1,19 +1,18 @@
 -- What is so of every system that steps reach from a fresh one, with what has been accepted on the way. All of it is said of the
 -- messages, records and entries that are there, so that those which disappear or are never sent cost nothing.
 use Prim.Native.Nat.{ℕ, ◌≤◌, ◌<◌}
-use mathlib.Core.Path.{◌≡◌, sym, ◌∙◌, subst}
+use mathlib.Core.Path.{◌≡◌}
 use mathlib.Core.Bool.{true}
 use mathlib.Core.List.{List}
 use native.Mathlib.Omega.{arith}
+use Rattle.std.specs.Prelude.{None, Some}
 use Rattle.view.specs.View.{has, least_of}
 use Rattle.view.proofs.Laws.{Each}
 use Rattle.channel.specs.declared.Message.{Message}
 use Rattle.channel.specs.declared.Message.TheVariants.{Propose, Retry, Acc, Commit}
-use Rattle.system.specs.declared.Pending.{Pending}
-use Rattle.system.specs.declared.Pending.TheVariants.{Nothing, Proposal}
 use Rattle.system.specs.declared.Variables.{Variables}
 use Rattle.system.specs.declared.System.{System}
-use Rattle.system.specs.Process.{pending_at}
+use Rattle.system.specs.Process.{pending_at, Pending}
 use Rattle.system.specs.System.{process_at, variables_at, entry_in}
 use Rattle.step.proofs.Frames.{Shape}
 use Rattle.step.proofs.Cases.{waiting_at}
@@ -42,8 +41,8 @@ Honest acc at q p (Commit v i) = Agreed acc v i.0
 
 -- what a process has recorded from q
 abbrev pub Recorded : (ℕ → Variables) → ℕ → Pending → Type 0
-Recorded at q Nothing = Unit {0}
-Recorded at q (Proposal v i) = Proposed (at q) v i.0
+Recorded at q None = Unit {0}
+Recorded at q (Some r) = Proposed (at q) r.view r.index.0
 
 -- the variables x of process p
 pub record Own (acc : List Acceptance) (p : ℕ) (x : Variables) : Type 0 where
@@ -85,31 +84,17 @@ pub later_risen : (x y : Variables) → x.propout.0 < y.propout.0 → Later x y
 later_risen x y h = record { up = omega arith; same = λ e. absurd (omega arith) }
 
 pub proposed_later : {x y : Variables} {v i : ℕ} → Later x y → Proposed x v i → Proposed y v i
-proposed_later {x} {y} l h =
-    record {
-      bound = omega (arith, h.bound, l.up);
-      same = λ e n.
-          let z : y.propout.0 ≡ x.propout.0 = omega (arith, h.bound, l.up) in
-          let w = l.same z n in
-          h.same (e ∙ z) (λ k. n (w ∙ k)) ∙ sym w;
-    }
+proposed_later {x} {y} l h = grind arith
 
 pub answered_later : {old new : List Acceptance} {u : ℕ} {x y : Variables} {i : ℕ} → Grown old new → Later x y → Answered old u x i → Answered new u y i
-answered_later {old} {new} {u} {x} {y} {i} g l h =
-    record {
-      bound = omega (arith, h.bound, l.up);
-      same = λ e n.
-          let z : y.propout.0 ≡ x.propout.0 = omega (arith, h.bound, l.up) in
-          let w = l.same z n in
-          g.still u y.proposal i (subst (λ (v : ℕ). accepted old u v i ≡ true) (sym w) (h.same (e ∙ z) (λ k. n (w ∙ k))));
-    }
+answered_later {old} {new} {u} {x} {y} {i} g l h = grind arith
 
 module _ {old new : List Acceptance} (g : Grown old new) where
   pub own_later : {p : ℕ} {x : Variables} → Own old p x → Own new p x
-  own_later {p} {x} o = record { marks = λ u n h. g.still u x.proposal x.propout.0 (o.marks u n h); leads = o.leads }
+  own_later {p} {x} o = grind arith
 
   pub entered_later : {p i v : ℕ} → Entered old p i v → Entered new p i v
-  entered_later {p} {i} {v} e = record { own = e.own; agreed = λ u h. g.still u v i (e.agreed u h) }
+  entered_later {p} {i} {v} e = grind arith
 
   pub honest_later : {at then : ℕ → Variables} → ((k : ℕ) → Later (at k) (then k)) → (q p : ℕ) (m : Message) → Honest old at q p m → Honest new then q p m
   honest_later l q p (Propose v i) h = proposed_later (l q) h
@@ -118,5 +103,5 @@ module _ {old new : List Acceptance} (g : Grown old new) where
   honest_later l q p (Commit v i) h = λ u k. g.still u v i.0 (h u k)
 
 pub recorded_later : {at then : ℕ → Variables} → ((k : ℕ) → Later (at k) (then k)) → (q : ℕ) (x : Pending) → Recorded at q x → Recorded then q x
-recorded_later l q Nothing h = tt
-recorded_later l q (Proposal v i) h = proposed_later (l q) h
+recorded_later l q None h = tt
+recorded_later l q (Some r) h = proposed_later (l q) h

@@ -23,10 +23,7 @@ each_put_but : {A : Type 0} (P : ℕ → A → Type 0) (l : List A) (k : ℕ) (a
     → ((j : ℕ) → (j ≡ k → ⊥) → P j (at l j d))
     → (j : ℕ)
     → P j (at (put l k a) j d)
-each_put_but P l k a d low high new old j =
-    by_number j k
-    (λ e. subst (λ (i : ℕ). P i (at (put l k a) i d)) (sym e) (subst (P k) (sym (at_put_same l k a d low high)) new))
-    (λ h. subst (P j) (sym (at_put_other l k j a d h)) (old j h))
+each_put_but P l k a d low high new old j = grind (arith, at_put_same, at_put_other)
 
 module _ (g : Agreement) where
   abbrev page : List History → ℕ → History

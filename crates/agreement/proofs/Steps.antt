@@ -1,26 +1,24 @@
 -- Each transition, and so each step, whole or cut, and each list of events, keeps what is so of every system that events reach.
 use Prim.Native.Nat.{ℕ, ◌≤◌, ◌<◌, ◌+◌}
-use mathlib.Core.Path.{◌≡◌, refl, sym, ◌∙◌, subst}
+use mathlib.Core.Path.{◌≡◌, refl, sym, subst}
 use mathlib.Core.Bool.{Bool, true, false}
 use mathlib.Core.List.{List, [], ◌∷◌, ◌++◌, append-nil, append_assoc}
-use mathlib.Core.Logic.{⊎_elim}
 use native.Mathlib.Omega.{arith}
 use borrow.Author.Tests.{ne_eqb, lt-ltb, le-ltb}
 use lib.Dec.{eqb}
+use Rattle.std.specs.Prelude.{None, Some}
 use Rattle.view.specs.declared.ProcessId.{ProcessId}
 use Rattle.view.specs.declared.GroupIndex.{GroupIndex}
 use Rattle.view.specs.Logic.{pick}
 use Rattle.view.specs.View.{has, least_of}
-use Rattle.view.proofs.Laws.{Each, by_test}
+use Rattle.view.proofs.Laws.{by_test}
 use Rattle.view.proofs.Sets.{has_none, not_empty, has-with, has_only, subset-has}
 use Rattle.channel.specs.declared.Message.{Message}
-use Rattle.system.specs.declared.Pending.{Pending}
-use Rattle.system.specs.declared.Pending.TheVariants.{Nothing, Proposal}
 use Rattle.system.specs.declared.Variables.{Variables}
 use Rattle.system.specs.declared.System.{System}
-use Rattle.system.specs.declared.Outcome.{Outcome}
-use Rattle.system.specs.Process.{pending_at}
-use Rattle.system.specs.System.{process_at, variables_at, refused}
+use Rattle.system.specs.Outcome.{Outcome, refused}
+use Rattle.system.specs.Process.{pending_at, Pending, proposal_of}
+use Rattle.system.specs.System.{process_at, variables_at}
 use Rattle.sound.specs.Sound.{sound_system}
 use Rattle.plan.specs.declared.Action.{Action}
 use Rattle.plan.specs.declared.Action.TheVariants.{Report, Receive, Respond, Crash}
@@ -33,7 +31,7 @@ use Rattle.step.proofs.Effects.{all_left, taken_left}
 use Rattle.step.proofs.Inversion.{by_outcome}
 use Rattle.step.proofs.Outcomes.{unsound_is_1}
 use Rattle.agreement.specs.Accepted.{Acceptance, accepted, accepted_from, accepted_as, accepted_by, accepted_in}
-use Rattle.agreement.proofs.Acceptances.{Same, still, newest, last_or_before}
+use Rattle.agreement.proofs.Acceptances.{still, newest, last_or_before}
 use Rattle.agreement.proofs.Invariant.{Proposed, Answered, Honest, Recorded, Own, Reached, Later, later_equal, later_risen, answered_later}
 use Rattle.agreement.proofs.Changes.{Accepting, accepting_none, HonestChange, recording_honest, since_same, since_then, at_actor, later_all, After, effect_after, quiet_after}
 
@@ -44,12 +42,12 @@ acceptances s (Receive q p) = []
 acceptances s (Respond p q) = accepted_from p.0 (variables_at s p.0) (pending_at (process_at s p.0) q.0)
 acceptances s (Crash p) = []
 
-pub accepts_this : (p : ℕ) (x : Variables) (y : Pending) (v : ℕ) (i : GroupIndex) → y ≡ Proposal v i → x.next.0 ≤ i.0
+pub accepts_this : (p : ℕ) (x : Variables) (y : Pending) (v : ℕ) (i : GroupIndex) → y ≡ Some (proposal_of v i) → x.next.0 ≤ i.0
     → accepted_from p x y ≡ record { process = p; view = v; index = i.0 } ∷ []
 unfolding accepted_from pick
 accepts_this p x y v i e free = rw (e, le-ltb i.0 x.next.0 free)
 
-pub accepts_none : (p : ℕ) (x : Variables) (y : Pending) (v : ℕ) (i : GroupIndex) → y ≡ Proposal v i → i.0 < x.next.0 → accepted_from p x y ≡ []
+pub accepts_none : (p : ℕ) (x : Variables) (y : Pending) (v : ℕ) (i : GroupIndex) → y ≡ Some (proposal_of v i) → i.0 < x.next.0 → accepted_from p x y ≡ []
 unfolding accepted_from pick
 accepts_none p x y v i e late = rw (e, lt-ltb i.0 x.next.0 late)
 
@@ -58,56 +56,33 @@ module _ {s : System} {acc : List Acceptance} (r : Reached s acc) (p v i : ℕ) 
   abbrev this : Acceptance
   this = record { process = p; view = v; index = i }
 
-  -- nothing was accepted there
-  clash : (u w j : ℕ) → accepted acc u w j ≡ true → {z : ℕ} → Same this u z j → ⊥
-  clash u w j a e = omega (arith, subst (λ (k : ℕ). j < (variables_at s k).next.0) e.process (r.passed u w j a), e.index, free)
-
   accepting_this : Accepting p (i + 1) acc (acc ++ (this ∷ []))
-  accepting_this =
-      record {
-        grown = record { still = still acc (this ∷ []) };
-        others = λ u w j h a. ⊎_elim (λ b. b) (λ e. absurd (h e.process)) (last_or_before acc this u w j a);
-        passed = λ w j a. ⊎_elim (λ b. omega (arith, r.passed p w j b, free)) (λ e. omega (arith, e.index)) (last_or_before acc this p w j a);
-        member = λ u w j a. ⊎_elim (λ b. r.member u w j b) (λ e. rw (e.view, e.process) own) (last_or_before acc this u w j a);
-        one_view = λ u w z j a b.
-            ⊎_elim
-            (λ c. ⊎_elim (λ d. r.one_view u w z j c d) (λ e. absurd (clash u w j c e)) (last_or_before acc this u z j b))
-            (λ f. ⊎_elim (λ d. absurd (clash u z j d f)) (λ e. f.view ∙ sym e.view) (last_or_before acc this u z j b))
-            (last_or_before acc this u w j a);
-      }
+  accepting_this = grind (arith, still, last_or_before)
 
-  accepting_honest : (q : ProcessId) → HonestChange s acc (acc ++ (this ∷ [])) p (recording (with_next (variables_at s p) (i + 1)) q Nothing)
-  accepting_honest q =
-      recording_honest q Nothing accepting_this (later_equal _ _ refl refl)
-      (record { marks = λ u some named. still acc (this ∷ []) u _ _ ((r.own p).marks u some named); leads = (r.own p).leads })
-      tt
+  accepting_honest : (q : ProcessId) → HonestChange s acc (acc ++ (this ∷ [])) p (recording (with_next (variables_at s p) (i + 1)) q None)
+  accepting_honest q = grind (arith, accepting_this)
 
   -- so the Acc to a process whose variables are x is honest, if the proposal was
   answered_this : {x : Variables} → Proposed x v i → Answered (acc ++ (this ∷ [])) p x i
-  answered_this {x} proposed =
-      record {
-        bound = proposed.bound;
-        same = λ e h. subst (λ (w : ℕ). accepted (acc ++ (this ∷ [])) p w i ≡ true) (proposed.same e h) (newest acc p v i);
-      }
+  answered_this {x} proposed = grind (arith, newest)
 
 -- ---- what each transition may rely on
 module _ {s : System} {acc : List Acceptance} (r : Reached s acc) where
   -- the message taken was honest
   pub honest_first : {q p : ℕ} {m : Message} {left : ℕ → ℕ → List Message} → Taken s q p m left → Honest acc (variables_at s) q p m
-  honest_first {q} {p} k = (subst (Each (Honest acc (variables_at s) q p)) k.first (r.messages q p)).0
+  honest_first {q} {p} k = grind arith
 
   -- whoever is marked once an Acc of q is taken has accepted v* at PropOut
   marked_accepted : (p : ℕ) {q i acks : ℕ} → 1 ≤ q → q ≤ 8 → Answered acc q (variables_at s p) i → Marking (variables_at s p) q i acks → (u : ℕ)
       → ((variables_at s p).proposal ≡ 0 → ⊥)
       → has acks u ≡ true
       → accepted acc u (variables_at s p).proposal (variables_at s p).propout.0 ≡ true
-  marked_accepted p {q} l h answered (present e a) u some named =
-      ⊎_elim ((r.own p).marks u some) (λ (same : u ≡ q). rw (same, e) (answered.same (sym e) some)) (has-with (variables_at s p).acks q u l h (rw a at named))
+  marked_accepted p {q} l h answered (present e a) u some named = grind (arith, has-with)
   marked_accepted p l h answered (stale e a) u some named = (r.own p).marks u some (rw a at named)
 
   -- a change of the variables, in which nothing is accepted
   assigned_honest : (p : ℕ) {y : Variables} → y.next ≡ (variables_at s p).next → Later (variables_at s p) y → Own acc p y → HonestChange s acc acc p (assigning y)
-  assigned_honest p e later own = recording_honest _ Nothing (rw e (accepting_none r p)) later own tt
+  assigned_honest p e later own = grind arith
 
   -- a record made or cleared, in which nothing is accepted
   recorded_honest : (p : ℕ) (q : ProcessId) (d : Pending) → Recorded (variables_at s) q.0 d → HonestChange s acc acc p (recording (variables_at s p) q d)
@@ -115,7 +90,7 @@ module _ {s : System} {acc : List Acceptance} (r : Reached s acc) where
 
 -- the marks are cleared
 unmarked : {acc : List Acceptance} {p : ℕ} {y : Variables} → y.acks ≡ 0 → ((y.proposal ≡ 0 → ⊥) → (least_of y.view).0 ≡ p → y.proposal ≡ y.view) → Own acc p y
-unmarked e leads = record { marks = λ u some named. absurd (has_none u (rw e at named)); leads = leads }
+unmarked e leads = grind (arith, has_none)
 
 -- ---- each transition
 module _ {s t : System} {acc : List Acceptance} (r : Reached s acc) where
@@ -135,7 +110,7 @@ module _ {s t : System} {acc : List Acceptance} (r : Reached s acc) where
       (quiet_after r (all_left s) k.effect
       (assigned_honest r p.0 refl (later_equal _ _ refl refl) (record { marks = (r.own p.0).marks; leads = λ some least. absurd (k.other least) })))
   transition_after (Receive q p) (records k) =
-      unaccepting (quiet_after r (taken_left k.taken) k.effect (recorded_honest r p.0 q (Proposal k.view k.index) (honest_first r k.taken)))
+      unaccepting (quiet_after r (taken_left k.taken) k.effect (recorded_honest r p.0 q (Some (proposal_of k.view k.index)) (honest_first r k.taken)))
   transition_after (Receive q p) (reproposes k) =
       unaccepting
       (effect_after r (taken_left k.taken) k.effect
@@ -180,7 +155,7 @@ module _ {s t : System} {acc : List Acceptance} (r : Reached s acc) where
       (subst (λ (j : ℕ). Proposed (variables_at s j) k.view k.index.0) (sym (has_only q.0 b k.partner.low k.partner.eight named)) proposed))))
   transition_after (Respond p q) (declines k) =
       rw (accepts_none p.0 (variables_at s p.0) _ k.view k.index k.recorded k.late)
-      (unaccepting (effect_after r (all_left s) k.effect (recorded_honest r p.0 q Nothing tt) (λ b named. tt)))
+      (unaccepting (effect_after r (all_left s) k.effect (recorded_honest r p.0 q None tt) (λ b named. tt)))
   transition_after (Crash p) (crashes k) =
       unaccepting (quiet_after r (all_left s) k.effect (assigned_honest r p.0 refl (later_equal _ _ refl refl) (r.own p.0)))
 

@@ -3,7 +3,7 @@ use Prim.Native.Nat.{ℕ, zero, suc, ◌≤◌, ◌<◌}
 use mathlib.Core.Path.{◌≡◌, refl, sym, ◌∙◌, ap, subst}
 use mathlib.Core.Bool.{true}
 use mathlib.Core.List.{List, [], ◌∷◌, map}
-use mathlib.Core.Logic.{inl, inr, ⊎_elim}
+use mathlib.Core.Logic.{⊎_elim}
 use native.Mathlib.Omega.{arith}
 use native.Mathlib.Decide.{dec_le}
 use native.Mathlib.Nat.{lt_of_not-le}
@@ -20,7 +20,7 @@ use Rattle.system.specs.System.{no_process, process_at, entry_in}
 use Rattle.step.specs.Step.{Event, ran}
 use Rattle.step.proofs.Outcomes.{ran_append}
 use Rattle.agreement.specs.Accepted.{Acceptance, accepted_in}
-use Rattle.agreement.specs.Book.{Agreement, Book, book_entry, opened_book, fed_all}
+use Rattle.agreement.specs.Book.{Agreement, book_entry, opened_book, fed_all}
 use Rattle.agreement.specs.Demand.{start, Demand}
 use Rattle.agreement.proofs.Beginning.{start_reached, start-empty, start_first}
 use Rattle.agreement.proofs.Feed.{Feeding, InBook, Through, Fed, candidates, fed_through, made_among, made_not_refused, made_same_book, numbered_or_none}
@@ -50,11 +50,7 @@ unfolding opened_book
 opened-length s e = length-map s.processes (λ (x : Process). x.history) ∙ e
 
 opened_long : (s : System) (acc : List Acceptance) → Reached s acc → Long (opened_book s).histories
-opened_long s acc r =
-    record {
-      histories = opened-length s r.shape.processes;
-      entries = λ p. rw (opened_history s p) (r.shape.entries p);
-    }
+opened_long s acc r = grind (arith, opened-length, opened_history)
 
 -- ---- from a system that is empty past index 1
 module _ (s : System) (beginning : Reached s []) (empty : (p i : ℕ) → 2 ≤ i → entry_in s p i ≡ 0) (es : List Event) where
@@ -81,8 +77,8 @@ module _ (s : System) (beginning : Reached s []) (empty : (p i : ℕ) → 2 ≤ 
   opened_feeding =
       record {
         long = opened_long s [] beginning;
-        agrees = λ p i. elim (dec_le 2 i) [ yes l ↦ inl (opened-empty p i l) | no h ↦ inr (opened_in_book p i (lt_of_not-le h)) ];
-        together = λ u w i some same. elim (dec_le 2 i) [ yes l ↦ absurd (some (opened-empty u i l)) | no h ↦ opened_in_book w i (lt_of_not-le h) ];
+        agrees = λ p i. grind (arith, opened-empty, opened_in_book);
+        together = λ u w i some same. grind (arith, opened-empty, opened_in_book);
         made = tt;
       }
 
@@ -96,7 +92,7 @@ module _ (s : System) (beginning : Reached s []) (empty : (p i : ℕ) → 2 ≤ 
 
   past_the_end : (p i : ℕ) → 32 < i → entry_in t p i ≡ 0
   unfolding entry_in entry_at
-  past_the_end p i h = at_past (process_at t p).history.entries i 0 (omega (arith, reached.shape.entries p))
+  past_the_end p i h = grind (arith, at_past, reached)
 
   all_in_book : (p i : ℕ) → book_entry (fed_all acc (opened_book s) (candidates t acc reached 31)) p i ≡ entry_in t p i
   all_in_book p i =
@@ -116,7 +112,7 @@ module _ (s : System) (beginning : Reached s []) (empty : (p i : ℕ) → 2 ≤ 
   agreements = made_among acc (opened_book s) (candidates t acc reached 31)
 
   book_is : (p i : ℕ) → book_entry (fed_all acc (opened_book s) agreements) p i ≡ entry_in t p i
-  book_is p i = ap (λ (b : Book). book_entry b p i) (made_same_book acc (opened_book s) (candidates t acc reached 31)) ∙ all_in_book p i
+  book_is p i = grind (arith, made_same_book, all_in_book)
 
   before_first : (p : ℕ) → entry_in t p 0 ≡ 0
   unfolding entry_in entry_at at
@@ -150,12 +146,12 @@ pub demand_3 : (n : ℕ) (es : List Event) → Demand n es
 demand_3 n es =
     record {
       agreements = agreements (start n) (start_reached n) (start-empty n) es;
-      all_made = made_not_refused (accepted_in (start n) es) (opened_book (start n)) _;
+      all_made = grind (arith, made_not_refused);
       book_is = book_is (start n) (start_reached n) (start-empty n) es;
       kept = λ first rest e p i written.
           subst (λ (l : List Event). entry_in (ran (start n) l) p i ≡ entry_in (ran (start n) first) p i) e
           (ap (λ (x : System). entry_in x p i) (ran_append (start n) first rest)
           ∙ (run_after (ran (start n) first) (accepted_in (start n) first) rest (run_after (start n) [] first (start_reached n)).reached).since.written p i
           (eqb-false (entry_in (ran (start n) first) p i) 0 (not-true _ written)));
-      consistent = consistent (start n) (start_reached n) (start-empty n) es (start_first n);
+      consistent = grind (arith, consistent, start_reached, start-empty, start_first);
     }

@@ -1,12 +1,10 @@
 -- Who has accepted what, told from the list of events. Document 01: "Otherwise Next becomes that position + 1 and Acc(that
 -- position) goes to q; by this answer, done in the run, and by nothing else, p has accepted the recorded view at that position."
-use Rattle.std.specs.Prelude.{ℕ, Bool, false, ◌&&◌, ◌||◌, List, [], ◌∷◌, ◌++◌, ltb, eqb}
+use Rattle.std.specs.Prelude.{ℕ, Bool, false, ◌&&◌, ◌||◌, List, [], ◌∷◌, ◌++◌, ltb, eqb, None, Some}
 use Rattle.view.specs.Logic.{pick}
-use Rattle.system.specs.declared.Pending.{Pending}
-use Rattle.system.specs.declared.Pending.TheVariants.{Nothing, Proposal}
 use Rattle.system.specs.declared.Variables.{Variables}
 use Rattle.system.specs.declared.System.{System}
-use Rattle.system.specs.Process.{pending_at}
+use Rattle.system.specs.Process.{pending_at, Pending}
 use Rattle.system.specs.System.{process_at, variables_at}
 use Rattle.plan.specs.declared.Action.{Action}
 use Rattle.plan.specs.declared.Action.TheVariants.{Report, Receive, Respond, Crash}
@@ -19,8 +17,8 @@ pub record Acceptance : Type 0 where
 
 -- an answer of p, whose variables are x, to what it has recorded: a Retry accepts nothing
 unfoldable pub accepted_from : ℕ → Variables → Pending → List Acceptance
-accepted_from p x Nothing = []
-accepted_from p x (Proposal v i) = pick (ltb i.0 x.next.0) [] (record { process = p; view = v; index = i.0 } ∷ [])
+accepted_from p x None = []
+accepted_from p x (Some r) = pick (ltb r.index.0 x.next.0) [] (record { process = p; view = r.view; index = r.index.0 } ∷ [])
 
 -- an action whose step gives the number k: an answer done, and nothing else
 unfoldable pub accepted_as : System → Action → ℕ → List Acceptance

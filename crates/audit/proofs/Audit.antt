@@ -1,6 +1,6 @@
 -- What a sheet counts is the tally of its events: line by line. Each line has at most 7,936 of them, and each of these sends at most eight
 -- messages, so that no count of a sheet, nor of 64 sheets, passes its end.
-use Prim.Native.Nat.{ℕ, suc, ◌+◌, ◌*◌, ◌≤◌}
+use Prim.Native.Nat.{ℕ, suc, ◌*◌, ◌≤◌}
 use mathlib.Core.Path.{◌≡◌, refl, sym, ◌∙◌, ap, subst}
 use mathlib.Core.Bool.{Bool, true}
 use mathlib.Core.List.{List, [], ◌∷◌, ◌++◌}
@@ -8,14 +8,14 @@ use native.Mathlib.Omega.{arith}
 use borrow.Author.Tests.{ltb-false, le-ltb}
 use lib.Dec.{ltb}
 use lib.ListN.{length, length-append}
+use Rattle.std.specs.Prelude.{Option, Some, None}
 use Rattle.view.specs.Logic.{pick, is_one_of}
 use Rattle.view.proofs.Laws.{by_pick}
 use Rattle.tallies.specs.declared.Tally.{Tally}
 use Rattle.tallies.specs.Tally.{no_tally, plus, capped}
 use Rattle.tallies.proofs.Laws.{plus_none, none_plus, plus-plus, kept_on_the_way, kept_added, kept_twice, kept_whole, CountsAtMost, none_at_most, plus_at_most}
 use Rattle.system.specs.declared.System.{System}
-use Rattle.system.specs.declared.Outcome.{Outcome}
-use Rattle.system.specs.System.{done, refused}
+use Rattle.system.specs.Outcome.{Outcome, done, refused}
 use Rattle.system.specs.Fresh.{fresh_system, fresh_of}
 use Rattle.step.specs.Step.{stepped, Event, does, happened, ran}
 use Rattle.step.specs.Counts.{event_tally, events_tally, still_waiting, tally_of}
@@ -26,17 +26,16 @@ use Rattle.settle.proofs.Within.{settled_steps}
 use Rattle.bound.proofs.Settling.{settles_by}
 use Rattle.traffic.proofs.Theorem.{conserved, few_counted}
 use Rattle.traffic.proofs.Share.{share_at_most_one}
-use Rattle.sheet.specs.declared.parse.Opening.{Opening}
-use Rattle.sheet.specs.declared.parse.Opening.TheVariants.{Bad as BadFirst, Fresh}
+use Rattle.std.specs.Prelude.{Result, Ok, Err}
+use Rattle.sheet.specs.declared.parse.BadFrom.{BadFrom}
 use Rattle.sheet.specs.declared.parse.Line.{Line}
-use Rattle.sheet.specs.declared.parse.Line.TheVariants.{Bad, Step, Settle}
+use Rattle.sheet.specs.declared.parse.Line.TheVariants.{Step, Settle}
 use Rattle.sheet.specs.Lines.{lines_of}
 use Rattle.sheet.specs.Parse.{opened, parsed}
 use Rattle.sheet.proofs.Laws.{weight, few_bytes, few_lines}
 use Rattle.sheet.proofs.GoodLines.{fresh_size}
 use Rattle.run.specs.Output.{answered, settled_as, line_done, tallied_then, tallied_from, tallied_by, lines_tally, sheet_tally}
-use Rattle.class.specs.declared.Finding.{Finding}
-use Rattle.class.specs.Class.{Named, finding_of, adds_of, in_all}
+use Rattle.class.specs.Class.{Finding, Named, counted, finding_of, adds_of, in_all}
 use Rattle.audit.specs.Audit.{EventsOf, ended, bad, step, settling, Accounted, SheetAccounted, Even, SheetEven, ClassEven, NotOverOne, SheetShare, ClassShare, NoOverflow}
 
 -- ---- the lines from number k on, on system s, where a was counted before them
@@ -73,11 +72,11 @@ nothing_more : (s : System) → tally_of s [] ≡ still_waiting s
 unfolding tally_of events_tally ran
 nothing_more s = none_plus (still_waiting s)
 
-line_runs : (k : ℕ) (a : Tally) (s : System) (l : List ℕ) (ls : List (List ℕ)) → ((b : Tally) (t : System) → LinesCounted (suc k) b t ls) → (x : Line)
+line_runs : (k : ℕ) (a : Tally) (s : System) (l : List ℕ) (ls : List (List ℕ)) → ((b : Tally) (t : System) → LinesCounted (suc k) b t ls) → (x : Result Line BadFrom)
     → parsed l ≡ x
     → LinesCounted k a s (l ∷ ls)
 unfolding tallied_from tallied_then line_done answered settled_as events_tally ran happened
-line_runs k a s l ls on (Bad column) e =
+line_runs k a s l ls on (Err from) e =
     let more = on (capped (plus a no_tally)) s in
     record {
       events = more.events;
@@ -85,7 +84,7 @@ line_runs k a s l ls on (Bad column) e =
       tally = rw e (more.tally ∙ then_more a no_tally s s [] more.events refl refl);
       many = omega (arith, more.many);
     }
-line_runs k a s l ls on (Step o) e =
+line_runs k a s l ls on (Ok (Step o)) e =
     let more = on (capped (plus a (event_tally s (does o)))) (stepped s o).system in
     record {
       events = does o ∷ more.events;
@@ -93,7 +92,7 @@ line_runs k a s l ls on (Step o) e =
       tally = rw e (more.tally ∙ then_more a _ s (stepped s o).system (does o ∷ []) more.events (ap capped (sym (plus_none _))) refl);
       many = omega (arith, more.many);
     }
-line_runs k a s l ls on Settle e =
+line_runs k a s l ls on (Ok Settle) e =
     let way = settles_by 7936 s in
     let more = on (capped (plus a (settled_tally 7936 s))) (settled 7936 s).system in
     record {
@@ -167,7 +166,7 @@ accounted sheet first ls n short lines good =
     tallied =
         ap (λ (test : Bool). pick test no_tally (lines_tally (lines_of sheet))) (le-ltb 60000 (length sheet) short)
         ∙ ap lines_tally lines
-        ∙ ap (λ (x : Opening). tallied_by x ls) good
+        ∙ ap (λ (x : Result ℕ BadFrom). tallied_by x ls) good
 
 -- ---- every sheet: what is so of each list of events, and of nothing
 every_sheet : (P : Tally → Type 0) → P no_tally → ((n : ℕ) (es : List Event) → length es ≤ 476167936 → P (fresh_tally n es)) → (sheet : List ℕ)
@@ -177,9 +176,9 @@ every_sheet P none some sheet =
     by_pick P (ltb 60000 (length sheet)) _ _ (λ long. none)
     (λ e. of_lines (lines_of sheet) (omega (arith, few_bytes sheet, few_lines (lines_of sheet), ltb-false 60000 (length sheet) e)))
   where
-    of_opening : (first : List ℕ) (ls : List (List ℕ)) (x : Opening) → opened first ≡ x → length ls ≤ 60001 → P (tallied_by x ls)
-    of_opening first ls (BadFirst column) e short = none
-    of_opening first ls (Fresh n) e short =
+    of_opening : (first : List ℕ) (ls : List (List ℕ)) (x : Result ℕ BadFrom) → opened first ≡ x → length ls ≤ 60001 → P (tallied_by x ls)
+    of_opening first ls (Err from) e short = none
+    of_opening first ls (Ok n) e short =
         let whole = good_sheet n ls (fresh_size first n e) short in
         subst P (sym whole.accounted.tally) (some n whole.accounted.events (omega (arith, whole.few)))
 
@@ -189,13 +188,12 @@ every_sheet P none some sheet =
 
 -- ---- a class: what a name adds
 every_name : (P : Tally → Type 0) → P no_tally → ((sheet : List ℕ) → P (sheet_tally sheet)) → (x : Named) → P (adds_of (finding_of x))
-unfolding finding_of adds_of
-every_name P none some x =
-    by_pick (λ (f : Finding). P (adds_of f)) (ltb 255 (length x.name)) _ _ (λ e. none)
-    (λ e.
-    by_pick (λ (f : Finding). P (adds_of f)) x.was_read _ _
-    (λ o. by_pick (λ (f : Finding). P (adds_of f)) (ltb 60000 (length x.sheet)) _ _ (λ l. none) (λ l. some x.sheet))
-    (λ o. none))
+unfolding finding_of counted adds_of
+every_name P none some x = by_pick (λ (f : Finding). P (adds_of f)) (ltb 255 (length x.name)) _ _ (λ e. none) (λ e. of_sheet x.sheet)
+  where
+    of_sheet : (sheet : Option (List ℕ)) → P (adds_of (counted sheet))
+    of_sheet None = none
+    of_sheet (Some sheet) = by_pick (λ (f : Finding). P (adds_of f)) (ltb 60000 (length sheet)) _ _ (λ l. none) (λ l. some sheet)
 
 -- ---- sent is taken, waiting and lost
 pub sheet_even : (sheet : List ℕ) → SheetEven sheet

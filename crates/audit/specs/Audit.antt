@@ -1,6 +1,6 @@
 -- S-7: "Each count is defined from the steps done". What a sheet counts is the tally of its events; and no count of a class passes the end of
 -- its eight bytes.
-use Rattle.std.specs.Prelude.{ℕ, ◌+◌, ◌≤◌, ◌≡◌, List, [], ◌∷◌, ◌++◌, length}
+use Rattle.std.specs.Prelude.{ℕ, ◌+◌, ◌≤◌, ◌≡◌, List, [], ◌∷◌, ◌++◌, length, Ok, Err}
 use Rattle.tallies.specs.declared.Tally.{Tally}
 use Rattle.tallies.specs.Tally.{capped}
 use Rattle.system.specs.declared.System.{System}
@@ -10,8 +10,8 @@ use Rattle.step.specs.Step.{stepped, Event, does}
 use Rattle.step.specs.Tallied.{fresh_tally}
 use Rattle.settle.specs.Settle.{settled}
 use Rattle.bound.specs.Settling.{Moves}
-use Rattle.sheet.specs.declared.parse.Opening.TheVariants.{Fresh}
-use Rattle.sheet.specs.declared.parse.Line.TheVariants.{Bad, Step, Settle}
+use Rattle.sheet.specs.declared.parse.BadFrom.{BadFrom}
+use Rattle.sheet.specs.declared.parse.Line.TheVariants.{Step, Settle}
 use Rattle.sheet.specs.Lines.{lines_of}
 use Rattle.sheet.specs.Parse.{opened, parsed}
 use Rattle.run.specs.Output.{sheet_tally}
@@ -21,11 +21,11 @@ use Rattle.class.specs.Class.{Named, in_all}
 -- place; nothing by a bad line
 pub data EventsOf : System → List (List ℕ) → List Event → Type 0 where
   ended : {s : System} → EventsOf s [] []
-  bad : {s : System} {l : List ℕ} {ls : List (List ℕ)} {es : List Event} {column : ℕ} → parsed l ≡ Bad column → EventsOf s ls es
+  bad : {s : System} {l : List ℕ} {ls : List (List ℕ)} {es : List Event} {from : BadFrom} → parsed l ≡ Err from → EventsOf s ls es
       → EventsOf s (l ∷ ls) es
-  step : {s : System} {l : List ℕ} {ls : List (List ℕ)} {es : List Event} {o : Order} → parsed l ≡ Step o → EventsOf (stepped s o).system ls es
+  step : {s : System} {l : List ℕ} {ls : List (List ℕ)} {es : List Event} {o : Order} → parsed l ≡ Ok (Step o) → EventsOf (stepped s o).system ls es
       → EventsOf s (l ∷ ls) (does o ∷ es)
-  settling : {s : System} {l : List ℕ} {ls : List (List ℕ)} {ms es : List Event} → parsed l ≡ Settle
+  settling : {s : System} {l : List ℕ} {ls : List (List ℕ)} {ms es : List Event} → parsed l ≡ Ok Settle
       → Moves s ms (settled 7936 s).steps (settled 7936 s).system
       → EventsOf (settled 7936 s).system ls es
       → EventsOf s (l ∷ ls) (ms ++ es)
@@ -39,7 +39,7 @@ pub record Accounted (n : ℕ) (ls : List (List ℕ)) (t : Tally) : Type 0 where
 -- of every sheet that has a good first line and is not a long one
 abbrev pub SheetAccounted : List ℕ → List ℕ → List (List ℕ) → ℕ → Type 0
 SheetAccounted sheet first ls n =
-    length sheet ≤ 60000 → lines_of sheet ≡ first ∷ ls → opened first ≡ Fresh n → Accounted n ls (sheet_tally sheet)
+    length sheet ≤ 60000 → lines_of sheet ≡ first ∷ ls → opened first ≡ Ok n → Accounted n ls (sheet_tally sheet)
 
 -- sent is taken, waiting and lost
 abbrev pub Even : Tally → Type 0

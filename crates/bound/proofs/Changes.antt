@@ -1,21 +1,20 @@
 -- What any effect does to the parts of what is due. Where a process stops, or some of the addressees are not told, there is only less.
 use Prim.Native.Nat.{ℕ, ◌+◌, ◌-◌, ◌*◌, ◌≤◌, ◌<◌}
-use mathlib.Core.Path.{◌≡◌, ap}
+use mathlib.Core.Path.{◌≡◌}
 use mathlib.Core.Bool.{Bool, true}
 use mathlib.Core.List.{List}
 use native.Mathlib.Omega.{arith}
 use lib.ListN.{length}
+use Rattle.std.specs.Prelude.{None, Some}
 use Rattle.view.specs.declared.GroupIndex.{GroupIndex}
 use Rattle.view.specs.Logic.{put}
 use Rattle.view.specs.View.{has, with}
 use Rattle.view.proofs.Laws.{at_put_same}
 use Rattle.view.proofs.Sets.{has_none, has_only}
 use Rattle.channel.specs.declared.Message.{Message}
-use Rattle.system.specs.declared.Pending.TheVariants.{Nothing, Proposal}
-use Rattle.system.specs.declared.PendingSlot.{PendingSlot}
 use Rattle.system.specs.declared.Process.{Process}
 use Rattle.system.specs.declared.System.{System}
-use Rattle.system.specs.Process.{pending_at, pending_slot}
+use Rattle.system.specs.Process.{pending_at, proposal_of}
 use Rattle.system.specs.System.{process_at, variables_at}
 use Rattle.plan.specs.declared.Change.{Change}
 use Rattle.step.specs.Counts.{one}
@@ -31,11 +30,10 @@ pub record Flow (s t : System) (off on : (Message → ℕ) → ℕ → ℕ → �
   pub self : count selfward (waiting_at t a a) + off selfward a a ≤ count selfward (waiting_at s a a) + on selfward a a
 
 -- a process after its record from q is cleared
-emptied : (x : Process) (c : Change) (stops : Bool) (q : ℕ) → c.proposer.0 ≡ q → c.pending ≡ Nothing → 1 ≤ q → q ≤ length x.pending
-    → pending_at (afterwards x c stops) q ≡ Nothing
+emptied : (x : Process) (c : Change) (stops : Bool) (q : ℕ) → c.proposer.0 ≡ q → c.pending ≡ None → 1 ≤ q → q ≤ length x.pending
+    → pending_at (afterwards x c stops) q ≡ None
 unfolding afterwards pending_at
-emptied x c stops q from none low high =
-    rw (from, none) (ap (λ (y : PendingSlot). y.pending) (at_put_same x.pending q (pending_slot Nothing) (pending_slot Nothing) low high))
+emptied x c stops q from none low high = grind (arith, at_put_same)
 
 module _ {s t : System} {left : ℕ → ℕ → List Message} {p : ℕ} {c : Change} {stops : Bool} {to : ℕ} {m : Message} (f : Effect s t left p c stops to m) where
   module _ (off : (Message → ℕ) → ℕ → ℕ → ℕ) (taken : (w : Message → ℕ) (a b : ℕ) → count w (left a b) + off w a b ≡ count w (waiting_at s a b)) where
@@ -62,8 +60,7 @@ module _ {s t : System} {left : ℕ → ℕ → List Message} {p : ℕ} {c : Cha
   -- ---- records
   pub held_steady : c.proposer.0 ≡ 0 → (a b : ℕ) → held t a b ≤ held s a b
   unfolding held afterwards pending_at put
-  held_steady e a b =
-      each_process f (λ k y. recorded (pending_at y a) ≤ recorded (pending_at (process_at s k) a)) (rw e (omega arith)) (λ k. omega arith) b
+  held_steady e a b = grind arith
 
   -- what is recorded from q
   pub held_more : (a b : ℕ) → held t a b ≤ held s a b + is a c.proposer.0 * is b p
@@ -79,8 +76,8 @@ module _ {s t : System} {left : ℕ → ℕ → List Message} {p : ℕ} {c : Cha
       b
 
   -- a record that is cleared
-  pub held_cleared : (q v : ℕ) (i : GroupIndex) → c.proposer.0 ≡ q → c.pending ≡ Nothing → 1 ≤ q → q ≤ length (process_at s p).pending
-      → pending_at (process_at s p) q ≡ Proposal v i
+  pub held_cleared : (q v : ℕ) (i : GroupIndex) → c.proposer.0 ≡ q → c.pending ≡ None → 1 ≤ q → q ≤ length (process_at s p).pending
+      → pending_at (process_at s p) q ≡ Some (proposal_of v i)
       → (a b : ℕ)
       → held t a b + is a q * is b p ≤ held s a b
   unfolding held recorded
@@ -99,15 +96,14 @@ module _ {s t : System} {left : ℕ → ℕ → List Message} {p : ℕ} {c : Cha
           (λ k. omega arith)
           b
 
-      cleared : pending_at (process_at t p) q ≡ Nothing
+      cleared : pending_at (process_at t p) q ≡ None
       cleared = rw f.actor (emptied (process_at s p) c stops q from none low high)
 
   -- ---- marks: x is used up, and z pays
   pub marks_paid : (x z : ℕ → ℕ) → one (has c.variables.acks p) + x p ≤ mark s p + z p → ((k : ℕ) → (k ≡ p → ⊥) → x k ≤ z k) → (a : ℕ)
       → mark t a + x a ≤ mark s a + z a
   unfolding mark afterwards
-  marks_paid x z own other =
-      each_process_but f (λ k y. one (has y.variables.acks k) + x k ≤ mark s k + z k) own (λ k h. omega (arith, other k h))
+  marks_paid x z own other = grind arith
 
   pub marks_fewer : one (has c.variables.acks p) ≤ mark s p → (a : ℕ) → mark t a ≤ mark s a
   marks_fewer own a = omega (arith, marks_paid (λ k. 0) (λ k. 0) (omega arith) (λ k h. omega arith) a)
@@ -115,11 +111,8 @@ module _ {s t : System} {left : ℕ → ℕ → List Message} {p : ℕ} {c : Cha
   -- ---- PropOut
   pub ahead_steady : c.variables.propout ≡ (variables_at s p).propout → (a : ℕ) → ahead t a ≤ ahead s a
   unfolding ahead afterwards
-  ahead_steady e = each_process f (λ k y. 32 - y.variables.propout.0 ≤ ahead s k) (rw e (omega arith)) (λ k. omega arith)
+  ahead_steady e = grind arith
 
   pub ahead_falls : (variables_at s p).propout.0 < c.variables.propout.0 → c.variables.propout.0 ≤ 32 → (a : ℕ) → ahead t a + is a p ≤ ahead s a
   unfolding ahead afterwards
-  ahead_falls rises below =
-      each_process_but f (λ k y. 32 - y.variables.propout.0 + is k p ≤ ahead s k)
-      (omega (arith, is_self p))
-      (λ k h. omega (arith, is_other k p h))
+  ahead_falls rises below = grind (arith, is_self, is_other)

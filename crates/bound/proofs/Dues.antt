@@ -4,12 +4,11 @@
 -- answer, and then the mark, which a broadcast of Commits uses up.
 use Prim.Native.Nat.{ℕ, ◌+◌, ◌*◌, ◌-◌, ◌≤◌}
 use native.Mathlib.Omega.{arith}
+use Rattle.std.specs.Prelude.{None, Some}
 use Rattle.channel.specs.declared.Message.{Message}
 use Rattle.channel.specs.declared.Message.TheVariants.{Propose, Retry, Acc, Commit}
-use Rattle.system.specs.declared.Pending.{Pending}
-use Rattle.system.specs.declared.Pending.TheVariants.{Nothing, Proposal}
 use Rattle.system.specs.declared.System.{System}
-use Rattle.system.specs.Process.{pending_at}
+use Rattle.system.specs.Process.{pending_at, Pending}
 use Rattle.system.specs.System.{process_at, variables_at}
 use Rattle.step.proofs.Cases.{waiting_at}
 use Rattle.step.proofs.Weights.{mark, count}
@@ -39,13 +38,13 @@ selfward (Commit v i) = 0
 -- ---- the parts
 -- 1 where a proposal is recorded
 unfoldable pub recorded : Pending → ℕ
-recorded Nothing = 0
-recorded (Proposal v i) = 1
+recorded None = 0
+recorded (Some r) = 1
 
 pub recorded_small : (y : Pending) → recorded y ≤ 1
 unfolding recorded
-recorded_small Nothing = omega arith
-recorded_small (Proposal v i) = omega arith
+recorded_small None = omega arith
+recorded_small (Some r) = omega arith
 
 -- 1 where process b has recorded a proposal of process a
 unfoldable pub held : System → ℕ → ℕ → ℕ

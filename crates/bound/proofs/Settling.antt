@@ -24,8 +24,7 @@ use Rattle.step.proofs.Outcomes.{size_kept, ran_append, tally_append}
 use Rattle.settle.specs.declared.Half.{Half}
 use Rattle.settle.specs.declared.Half.TheVariants.{Takes, Answers}
 use Rattle.settle.specs.declared.Ending.TheVariants.{Rest, Held, Budget}
-use Rattle.settle.specs.declared.Settled.{Settled}
-use Rattle.settle.specs.Settle.{Progress, passing, tried, move_of, tried_with, tried_at, half_done, round_done, unless_idle, rounds_done, none_done, nothing_to_do, ending_of, ended_with, outset, settled_from, settled, settled_tally}
+use Rattle.settle.specs.Settle.{Settled, Progress, passing, tried, move_of, tried_with, tried_at, half_done, round_done, unless_idle, rounds_done, none_done, nothing_to_do, ending_of, ended_with, outset, settled_from, settled, settled_tally}
 use Rattle.settle.proofs.Idle.{looks_round, rounds_end}
 use Rattle.bound.specs.Bound.{take_or_answer, take_or_answer_done, all_done}
 use Rattle.bound.specs.Settling.{SettlesBy, IsMoves, Ends, NeverBudget}
@@ -52,16 +51,7 @@ record Leads (x y : Progress) : Type 0 where
 
 nowhere : (x : Progress) → Leads x x
 unfolding all_done ran events_tally
-nowhere x =
-    record {
-      events = [];
-      every_done = refl;
-      system = refl;
-      count = omega arith;
-      size = refl;
-      tally = ap capped (sym (plus_none x.tally));
-      keeps = λ e. e;
-    }
+nowhere x = grind (arith, plus_none)
 
 onward : (x y z : Progress) → Leads x y → Leads y z → Leads x z
 onward x y z a b =
@@ -177,11 +167,7 @@ settles_by budget s = by_test (sound_system s) (λ e. subst By (sym e) settling)
 -- below the budget, or with nothing to do, it is not budget
 not_budget : (budget : ℕ) (y : Progress) → (ltb y.steps budget || nothing_to_do y.system) ≡ true → ending_of budget y ≡ Budget → ⊥
 unfolding ending_of pick
-not_budget budget y e is = go (at_rest y.system) (sym (ap (λ (t : Bool). pick t (pick (at_rest y.system) Rest Held) Budget) e) ∙ is)
-  where
-    go : (t : Bool) → pick t Rest Held ≡ Budget → ⊥
-    go true f = let z : ◌≡◌ {A = ℕ} 0 1 = cc in omega arith
-    go false f = let z : ◌≡◌ {A = ℕ} 0 1 = cc in omega arith
+not_budget budget y e is = grind arith
 
 -- and else it is
 is_budget : (budget : ℕ) (y : Progress) → ltb y.steps budget ≡ false → nothing_to_do y.system ≡ false → ending_of budget y ≡ Budget

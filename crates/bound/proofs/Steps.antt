@@ -4,16 +4,16 @@ use mathlib.Core.Path.{◌≡◌, refl}
 use mathlib.Core.Bool.{Bool}
 use mathlib.Core.List.{List}
 use native.Mathlib.Omega.{arith}
+use Rattle.std.specs.Prelude.{None, Some}
 use Rattle.view.specs.declared.ProcessId.{ProcessId}
 use Rattle.view.specs.declared.GroupIndex.{GroupIndex}
 use Rattle.view.specs.View.{has, with}
 use Rattle.view.proofs.Sets.{subset-has}
 use Rattle.channel.specs.declared.Message.{Message}
 use Rattle.channel.specs.declared.Message.TheVariants.{Propose}
-use Rattle.system.specs.declared.Pending.TheVariants.{Nothing, Proposal}
 use Rattle.system.specs.declared.Variables.{Variables}
 use Rattle.system.specs.declared.System.{System}
-use Rattle.system.specs.Process.{pending_at}
+use Rattle.system.specs.Process.{pending_at, proposal_of}
 use Rattle.system.specs.System.{process_at, variables_at}
 use Rattle.plan.specs.declared.Change.{Change}
 use Rattle.plan.specs.declared.Action.{Action}
@@ -64,10 +64,10 @@ module _ {s t : System} {left : ℕ → ℕ → List Message} {p : ℕ} {c : Cha
 
 -- an answer: the record pays for it
 answering : {s t : System} {p v : ℕ} {i : GroupIndex} {q : ProcessId} {y : Variables} {stops : Bool} {m : Message}
-    (f : Effect s t (waiting_at s) p (recording y q Nothing) stops (with 0 q.0) m)
+    (f : Effect s t (waiting_at s) p (recording y q None) stops (with 0 q.0) m)
     → Shape s
     → Known s q.0
-    → pending_at (process_at s p) q.0 ≡ Proposal v i
+    → pending_at (process_at s p) q.0 ≡ Some (proposal_of v i)
     → (outward m ≡ 0) × (inward m ≡ 1) × (selfward m ≡ 1)
     → y.acks ≡ (variables_at s p).acks
     → y.propout ≡ (variables_at s p).propout
@@ -91,7 +91,7 @@ answering {s} {t} {p} {q = q} f shape from was e acks out a b =
 -- ---- each transition
 module _ {s t : System} (shape : Shape s) where
   paid : {d q p : ℕ} → Known s q → Known s p → ((a b : ℕ) → due t a b + d * (is a q * is b p) ≤ due s a b) → Paid s t d
-  paid {d} {q} {p} from to pays = record { proposer = q; other = p; from = from; to = to; pays = pays }
+  paid {d} {q} {p} from to pays = grind arith
 
   pub transition_pays : (o : Action) → Transition s t o → Paid s t (take_or_answer o)
   unfolding take_or_answer due stake mark outward inward selfward

@@ -1,5 +1,6 @@
 -- Sums over the pairs of the numbers 1 to n.
 use Prim.Native.Nat.{ℕ, ◌+◌, ◌*◌, ◌≤◌}
+use native.Mathlib.Omega.{arith}
 use Rattle.view.specs.Logic.{sum_up_to}
 use Rattle.view.proofs.Sums.{sum_falls, sum_falls_at, sum_at_most}
 
@@ -15,4 +16,4 @@ pairs_fall_at n f g falls q p d a b c e one =
 -- each is at most c
 pub pairs_at_most : (n : ℕ) (f : ℕ → ℕ → ℕ) (c : ℕ) → ((a b : ℕ) → 1 ≤ a → a ≤ n → f a b ≤ c) → pairs n f ≤ n * (n * c)
 unfolding pairs
-pairs_at_most n f c h = sum_at_most n _ (n * c) (λ a l u. sum_at_most n (f a) c (λ b v w. h a b l u))
+pairs_at_most n f c h = grind (arith, sum_at_most)

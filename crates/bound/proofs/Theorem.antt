@@ -14,7 +14,7 @@ use Rattle.view.specs.View.{has}
 use Rattle.view.proofs.Laws.{by_pick, by_test, and_left, and_right, one_of}
 use Rattle.system.specs.declared.Variables.{Variables}
 use Rattle.system.specs.declared.System.{System}
-use Rattle.system.specs.declared.Outcome.{Outcome}
+use Rattle.system.specs.Outcome.{Outcome}
 use Rattle.system.specs.Fresh.{fresh_variables, fresh_system, fresh_of}
 use Rattle.sound.specs.Sound.{sound_system}
 use Rattle.plan.specs.declared.Step.{Step}
@@ -69,17 +69,16 @@ run_paid n s e valid (does o ∷ os) =
 module _ (n a : ℕ) (low : 1 ≤ a) (high : a ≤ 8) where
   fresh_mark : mark (fresh_system n) a ≡ 0
   unfolding mark fresh_variables
-  fresh_mark = ap (λ (x : Variables). one (has x.acks a)) (fresh_variables_lem n a low high) ∙ unmarked a
+  fresh_mark = grind (arith, fresh_variables_lem, unmarked)
 
   fresh_ahead : ahead (fresh_system n) a ≡ 31
   unfolding ahead fresh_variables
-  fresh_ahead = ap (λ (x : Variables). 32 - x.propout.0) (fresh_variables_lem n a low high)
+  fresh_ahead = grind (arith, fresh_variables_lem)
 
   -- 31 proposals, and four for each
   fresh_due : (b : ℕ) → due (fresh_system n) a b ≤ 124
   unfolding due stake held count recorded
-  fresh_due b =
-      rw (fresh_mark, fresh_ahead, nothing_waits n a b, nothing_waits n b a, nothing_waits n a a, nothing_recorded n b a, nothing_recorded n a a) (omega arith)
+  fresh_due b = grind (arith, fresh_mark, fresh_ahead, nothing_waits, nothing_recorded)
 
 fresh_bound : (n : ℕ) → is_one_of 8 n ≡ true → (os : List Event) → takes_and_answers (fresh_system n) os ≤ n * (n * 124)
 unfolding fresh_system
@@ -96,17 +95,14 @@ unsound_none s e (does o ∷ os) = rw (unsound_is_1 s o e) (omega (arith, unsoun
 
 nobody_none : (os : List Event) → takes_and_answers (fresh_system 0) os ≡ 0
 unfolding fresh_system
-nobody_none os = by_test (sound_system (fresh_system 0)) (λ e. absurd (omega (arith, (sound_facts (fresh_system 0) e).low))) (λ e. unsound_none (fresh_system 0) e os)
+nobody_none os = grind (arith, sound_facts, unsound_none)
 
 -- ---- of any number n
 started : (P : ℕ → Type 0) (n : ℕ) (os : List Event) → (1 ≤ n → n ≤ 8 → takes_and_answers (fresh_system n) os ≤ n * (n * 124) → P (takes_and_answers (fresh_system n) os))
     → P 0
     → P (takes_and_answers (fresh_of n).system os)
-unfolding fresh_of
-started P n os some none =
-    by_pick (λ (a : Outcome). P (takes_and_answers a.system os)) (is_one_of 8 n) _ _
-    (λ e. some (one_of 8 n e).0 (one_of 8 n e).1 (fresh_bound n e os))
-    (λ e. rw (nobody_none os) none)
+unfolding fresh_of pick
+started P n os some none = grind (arith, fresh_bound, nobody_none)
 
 pub bound : (n : ℕ) (os : List Event) → Bound n os
 bound n os = omega (arith, started (λ k. k ≤ n * (n * 124)) n os (λ low high most. most) (omega arith))

@@ -9,8 +9,7 @@ use Rattle.sound.specs.Sound.{sound_system}
 use Rattle.step.specs.Step.{Event, ran}
 use Rattle.step.specs.Counts.{events_tally}
 use Rattle.settle.specs.declared.Ending.TheVariants.{Budget}
-use Rattle.settle.specs.declared.Settled.{Settled}
-use Rattle.settle.specs.Settle.{nothing_to_do, settled, settled_tally}
+use Rattle.settle.specs.Settle.{Settled, nothing_to_do, settled, settled_tally}
 use Rattle.bound.specs.Bound.{all_done}
 
 -- k takes and answers, all of them done, lead from s to t

@@ -2,15 +2,17 @@
 use Prim.Native.Nat.{ℕ}
 use mathlib.Core.Path.{◌≡◌, refl, sym, ◌∙◌, ap}
 use mathlib.Core.List.{List, [], ◌∷◌, ◌++◌}
+use native.Mathlib.Omega.{arith}
 use borrow.Author.Tests.{eq-eqb}
 use lib.ListN.{length}
+use Rattle.std.specs.Prelude.{Ok, Err}
 use Rattle.view.specs.Logic.{pick}
 use Rattle.system.specs.declared.System.{System}
-use Rattle.system.specs.declared.Outcome.{Outcome}
+use Rattle.system.specs.Outcome.{Outcome}
 use Rattle.step.specs.Step.{stepped, Event, happened, ran}
 use Rattle.step.proofs.Outcomes.{ran_append}
 use Rattle.image.specs.Image.{image_width, system_in}
-use Rattle.list.specs.List.{Order, Unknown, Do, orders_in, obeyed, system_after}
+use Rattle.list.specs.List.{Order, orders_in, obeyed, system_after}
 use Rattle.capi.specs.Calls.{Freshens}
 use Rattle.agreement.specs.Demand.{start}
 use Rattle.agreement.proofs.Theorem.{demand_3}
@@ -20,8 +22,8 @@ use Rattle.calls.specs.Calls.{steps_among, Called, nothing, step, steps, settlin
 orders_ran : (s : System) (os : List Order) (rest : List Event) → ran (system_after s os) rest ≡ ran s (steps_among os ++ rest)
 unfolding system_after steps_among obeyed happened ran
 orders_ran s [] rest = refl
-orders_ran s (Unknown ∷ os) rest = orders_ran s os rest
-orders_ran s (Do o ∷ os) rest = orders_ran (stepped s o).system os rest
+orders_ran s (Err r ∷ os) rest = orders_ran s os rest
+orders_ran s (Ok o ∷ os) rest = orders_ran (stepped s o).system os rest
 
 called_ran : {b c : List ℕ} {es : List Event} → Called b es c → system_in c ≡ ran (system_in b) es
 unfolding happened ran
@@ -34,7 +36,7 @@ called_ran (settling {b} {ms} {es} tells moves rest) =
 
 begun : (n k : ℕ) (a b : List ℕ) → length a ≡ image_width → Freshens n a k b → system_in b ≡ start n
 unfolding pick
-begun n k a b long fresh = rw (eq-eqb (length a) image_width long) at (ap (λ (x : Outcome). x.system) fresh.outcome)
+begun n k a b long fresh = grind arith
 
 pub image_run : EveryRun
 image_run n k a b c es long fresh calls =

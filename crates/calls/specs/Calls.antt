@@ -1,11 +1,11 @@
 -- A program lends one image to call after call. Each call keeps the promise that the library makes of it; nothing else is known of the
 -- bytes.
-use Rattle.std.specs.Prelude.{ℕ, ◌≡◌, List, [], ◌∷◌, ◌++◌, length}
+use Rattle.std.specs.Prelude.{ℕ, ◌≡◌, List, [], ◌∷◌, ◌++◌, Ok, Err, length}
 use Rattle.plan.specs.declared.Step.{Step}
 use Rattle.step.specs.Step.{stepped, Event, does, ran}
 use Rattle.image.specs.Image.{image_width, system_in}
 use Rattle.alternatives.specs.Gives.{Gives}
-use Rattle.list.specs.List.{Order, Unknown, Do, Performs, orders_in}
+use Rattle.list.specs.List.{Order, Performs, orders_in}
 use Rattle.settle.specs.Settle.{settled}
 use Rattle.bound.specs.Settling.{Moves}
 use Rattle.capi.specs.Calls.{Freshens, Tells}
@@ -14,8 +14,8 @@ use Rattle.agreement.specs.Demand.{Demand, start}
 -- the steps of a list of orders: what is no step is left out
 unfoldable pub steps_among : List Order → List Event
 steps_among [] = []
-steps_among (Unknown ∷ os) = steps_among os
-steps_among (Do o ∷ os) = does o ∷ steps_among os
+steps_among (Err r ∷ os) = steps_among os
+steps_among (Ok o ∷ os) = does o ∷ steps_among os
 
 -- calls for these steps, refused ones too, bring bytes b to bytes c
 pub data Called : List ℕ → List Event → List ℕ → Type 0 where

@@ -8,8 +8,9 @@ use Rattle.view.specs.View.{has, within, with, minus, switched, everyone, first_
 use Rattle.channel.specs.Channel.{empty_channel, waiting, pushed, popped}
 use Rattle.system.specs.declared.Process.{Process}
 use Rattle.system.specs.Process.{entry_at, with_entry, as_crashed, pending_at, with_pending, with_variables, with_history}
-use Rattle.system.specs.System.{no_process, process_at, with_process, channel_number, channel_at, with_channel, trust_at, with_trust, trusting, sent, sent_if_named, broadcasted, takes_if_named, room_for, refused}
+use Rattle.system.specs.System.{no_process, process_at, with_process, channel_number, channel_at, with_channel, trust_at, with_trust, trusting, sent, sent_if_named, broadcasted, takes_if_named, room_for}
 use Rattle.system.specs.Fresh.{fresh_variables, fresh_process, fresh_system, fresh_of}
+use Rattle.system.specs.Outcome.{refused}
 use Rattle.sound.specs.Sound.{every, sound_proposal, sound_message, sound_pending, sound_channel, sound_history, sound_variables, sound_process, sound_channel_at, sound_at, sound_system}
 use Rattle.plan.specs.declared.Step.{Step}
 use Rattle.plan.specs.Plan.{changed, new_view_plan, report_plan, committing_plan, message_plan, receive_plan, respond_plan}

@@ -3,9 +3,8 @@
 use Rattle.std.specs.Prelude.{ℕ, List, [], ◌∷◌, replicate}
 use Rattle.channel.specs.declared.Message.TheVariants.{Propose, Retry, Acc, Commit}
 use Rattle.system.specs.declared.System.{System}
-use Rattle.system.specs.declared.Outcome.{Outcome}
+use Rattle.system.specs.Outcome.{Outcome, done}
 use Rattle.system.specs.Process.{index}
-use Rattle.system.specs.System.{done}
 use Rattle.system.specs.Fresh.{fresh_system}
 use Rattle.plan.specs.declared.Action.TheVariants.{Crash}
 use Rattle.plan.specs.Cut.{cut_after}

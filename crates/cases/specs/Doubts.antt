@@ -4,8 +4,8 @@ use Rattle.std.specs.Prelude.{ℕ, List, [], ◌∷◌, replicate}
 use Rattle.channel.specs.declared.Message.TheVariants.{Propose, Acc}
 use Rattle.system.specs.declared.System.{System}
 use Rattle.system.specs.Process.{index}
-use Rattle.system.specs.System.{done}
 use Rattle.system.specs.Fresh.{fresh_system}
+use Rattle.system.specs.Outcome.{done}
 use Rattle.cases.specs.Systems.{two, with_values, with_trust_of, with_stop, with_messages}
 use Rattle.cases.specs.Points.{Point, point, refuses}
 

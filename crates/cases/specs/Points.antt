@@ -1,18 +1,18 @@
 -- Single steps at the points where the rules are easy to misread, each as a sheet's line, with the whole system after it. In a line
 -- a view is its digits; in a system it is its byte: 1 is {1}, 2 is {2}, 3 is {1,2}. What comes of each step is read off document
 -- 01, not off the program.
-use Rattle.std.specs.Prelude.{ℕ, List, [], ◌∷◌, replicate}
+use Rattle.std.specs.Prelude.{ℕ, List, [], ◌∷◌, replicate, Result, Ok, Err}
 use Prim.Native.String.{String}
 use Rattle.channel.specs.declared.Message.TheVariants.{Propose, Retry, Acc, Commit}
 use Rattle.system.specs.declared.System.{System}
-use Rattle.system.specs.declared.Outcome.{Outcome}
+use Rattle.system.specs.Outcome.{Outcome, done, refused}
 use Rattle.system.specs.Process.{index}
-use Rattle.system.specs.System.{done, refused}
 use Rattle.print.specs.Text.{bytes}
 use Rattle.step.specs.Step.{stepped}
 use Rattle.settle.specs.Settle.{settled}
+use Rattle.sheet.specs.declared.parse.BadFrom.{BadFrom}
 use Rattle.sheet.specs.declared.parse.Line.{Line}
-use Rattle.sheet.specs.declared.parse.Line.TheVariants.{Bad, Step, Settle}
+use Rattle.sheet.specs.declared.parse.Line.TheVariants.{Step, Settle}
 use Rattle.sheet.specs.Parse.{parsed}
 use Rattle.cases.specs.Systems.{one, two, with_values, with_trust_of, with_stop, with_record, with_written, with_messages, lone}
 
@@ -29,10 +29,10 @@ abbrev pub refuses : System → String → ℕ → Point
 refuses s l k = point s l (refused k s)
 
 -- what a line does: its step, a settling run, or nothing
-unfoldable pub line_outcome : System → Line → Outcome
-line_outcome s (Bad column) = refused 8 s
-line_outcome s (Step o) = stepped s o
-line_outcome s Settle = record { refusal = (settled 7936 s).refusal; system = (settled 7936 s).system }
+unfoldable pub line_outcome : System → Result Line BadFrom → Outcome
+line_outcome s (Err bad) = refused 8 s
+line_outcome s (Ok (Step o)) = stepped s o
+line_outcome s (Ok Settle) = record { refusal = (settled 7936 s).refusal; system = (settled 7936 s).system }
 
 -- by the definitions
 unfoldable pub outcome_of : Point → Outcome

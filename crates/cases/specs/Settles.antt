@@ -5,8 +5,7 @@ use Rattle.system.specs.declared.System.{System}
 use Rattle.system.specs.Process.{index}
 use Rattle.settle.specs.declared.Ending.{Ending}
 use Rattle.settle.specs.declared.Ending.TheVariants.{Rest, Held, Budget}
-use Rattle.settle.specs.declared.Settled.{Settled}
-use Rattle.settle.specs.Settle.{settled}
+use Rattle.settle.specs.Settle.{Settled, settled}
 use Rattle.cases.specs.Systems.{two, with_values, with_stop, with_record, with_written, with_messages}
 
 pub record SettlingPoint : Type 0 where

@@ -2,15 +2,13 @@
 -- of document 01; then small sheets at the edges of the form. A whole sheet of the name `k1` or `no_last_lf` stands as K1.sheet
 -- and K1.out or no_last_lf.sheet and no_last_lf.out in crates/sheets/data too: tests/worked compares them.
 use Prim.Native.String.{String}
-use Rattle.std.specs.Prelude.{false, List, [], ◌∷◌, ◌++◌, replicate}
+use Rattle.std.specs.Prelude.{false, List, [], ◌∷◌, ◌++◌, replicate, None}
 use Rattle.channel.specs.declared.Message.{Message}
 use Rattle.channel.specs.declared.Message.TheVariants.{Propose, Retry, Acc}
 use Rattle.channel.specs.Channel.{empty_channel}
 use Rattle.system.specs.declared.System.{System}
-use Rattle.system.specs.declared.Outcome.{Outcome}
-use Rattle.system.specs.declared.Pending.TheVariants.{Nothing}
-use Rattle.system.specs.Process.{index, pending_slot}
-use Rattle.system.specs.System.{done}
+use Rattle.system.specs.Outcome.{Outcome, done}
+use Rattle.system.specs.Process.{index}
 use Rattle.system.specs.Fresh.{fresh_process, fresh_of}
 use Rattle.cases.specs.Systems.{lone}
 use Rattle.cases.specs.Worked.{WorkedSheet, Queue, its_own, handed}
@@ -44,7 +42,7 @@ k1_ends =
       processes =
           record {
             variables = record { crashed = false; view = 1; next = index 3; propout = index 2; proposal = 1; acks = 0 };
-            pending = replicate 8 (pending_slot Nothing);
+            pending = replicate 8 None;
             history = record { entries = 3 ∷ 1 ∷ replicate 30 0 };
           }
           ∷ replicate 7 (fresh_process 2);

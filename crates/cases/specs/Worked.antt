@@ -1,20 +1,19 @@
 -- A worked sheet: what it starts from, its text, and what is to come of it.
-use Rattle.std.specs.Prelude.{ℕ, List, [], ◌∷◌, ◌++◌, map}
+use Rattle.std.specs.Prelude.{ℕ, List, [], ◌∷◌, ◌++◌, map, Result, Ok, Err}
 use Prim.Native.String.{String}
 use Rattle.view.specs.Logic.{at}
 use Rattle.tallies.specs.Tally.{no_tally}
 use Rattle.channel.specs.declared.Message.{Message}
 use Rattle.channel.specs.Channel.{waiting}
 use Rattle.system.specs.declared.System.{System}
-use Rattle.system.specs.declared.Outcome.{Outcome}
+use Rattle.system.specs.Outcome.{Outcome}
 use Rattle.system.specs.System.{channel_at}
 use Rattle.system.specs.Fresh.{fresh_system}
 use Rattle.step.specs.Step.{Event, does, ran}
 use Rattle.print.specs.Text.{bytes}
-use Rattle.sheet.specs.declared.parse.Opening.{Opening}
-use Rattle.sheet.specs.declared.parse.Opening.TheVariants.{Bad as BadFirst, Fresh}
+use Rattle.sheet.specs.declared.parse.BadFrom.{BadFrom}
 use Rattle.sheet.specs.declared.parse.Line.{Line}
-use Rattle.sheet.specs.declared.parse.Line.TheVariants.{Bad, Step, Settle}
+use Rattle.sheet.specs.declared.parse.Line.TheVariants.{Step, Settle}
 use Rattle.sheet.specs.Lines.{lines_of}
 use Rattle.sheet.specs.Parse.{opened, parsed}
 use Rattle.run.specs.Output.{answered, printed_then, printed_from, output}
@@ -25,10 +24,10 @@ text_of [] = []
 text_of (s ∷ ss) = bytes s ++ text_of ss
 
 -- the steps that the lines of a text ask for; a settling run is left out, so that this is asked of texts without a `q` only
-unfoldable pub step_in : Line → List Event
-step_in (Bad column) = []
-step_in (Step o) = does o ∷ []
-step_in Settle = []
+unfoldable pub step_in : Result Line BadFrom → List Event
+step_in (Err bad) = []
+step_in (Ok (Step o)) = does o ∷ []
+step_in (Ok Settle) = []
 
 unfoldable pub steps_in : List (List ℕ) → List Event
 steps_in [] = []
@@ -57,7 +56,7 @@ pub record WorkedSheet : Type 0 where
   pub queues : List Queue
 
 -- what comes of a sheet
-pub record Result : Type 0 where
+pub record SheetResult : Type 0 where
   pub shown : List ℕ
   pub left : List Queue
 
@@ -67,9 +66,9 @@ printed_by its_own t = output t
 printed_by (handed o) t = printed_then (answered 1 no_tally o) (λ s. printed_from 2 s (lines_of t))
 
 -- the system that the lines run on
-unfoldable pub opened_with : Opening → System
-opened_with (BadFirst column) = fresh_system 0
-opened_with (Fresh n) = fresh_system n
+unfoldable pub opened_with : Result ℕ BadFrom → System
+opened_with (Err bad) = fresh_system 0
+opened_with (Ok n) = fresh_system n
 
 unfoldable pub start_of : Start → List (List ℕ) → System
 start_of its_own ls = opened_with (opened (at ls 1 []))
@@ -82,7 +81,7 @@ unfoldable pub queue_in : System → Queue → Queue
 queue_in s c = record { from = c.from; to = c.to; messages = waiting (channel_at s c.from c.to) }
 
 -- by the definitions
-unfoldable pub result_of : WorkedSheet → Result
+unfoldable pub result_of : WorkedSheet → SheetResult
 result_of w =
     record {
       shown = printed_by w.starts_from (text_of w.text);
@@ -90,5 +89,5 @@ result_of w =
     }
 
 -- by the case
-unfoldable pub expected_result : WorkedSheet → Result
+unfoldable pub expected_result : WorkedSheet → SheetResult
 expected_result w = record { shown = text_of w.printed; left = w.queues }

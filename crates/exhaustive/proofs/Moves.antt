@@ -14,13 +14,12 @@ use Rattle.view.proofs.Laws.{by_pick, each_keeps, one_of, and_left, and_right, t
 use Rattle.view.proofs.Sets.{not_empty}
 use Rattle.view.proofs.Views.{shifted_out}
 use Rattle.system.specs.declared.System.{System}
-use Rattle.system.specs.declared.Outcome.{Outcome}
+use Rattle.system.specs.Outcome.{Outcome}
 use Rattle.system.specs.System.{variables_at}
 use Rattle.sound.specs.Sound.{sound_system}
 use Rattle.plan.specs.declared.Action.{Action}
 use Rattle.plan.specs.declared.Action.TheVariants.{Report, Receive, Respond, Crash}
-use Rattle.plan.specs.declared.Plan.{Plan}
-use Rattle.plan.specs.Plan.{report_plan}
+use Rattle.plan.specs.Plan.{report_plan, Planned}
 use Rattle.step.specs.Scope.{scope_of}
 use Rattle.plan.specs.Cut.{whole, cut_by}
 use Rattle.step.specs.Step.{plan_of, carried_out, permitted, attempted, stepped}
@@ -36,32 +35,13 @@ pub record NotRefused (s : System) (o : Action) : Type 0 where
   pub planned : (plan_of s o).refusal ≡ 0
 
 pub not_refused : (s : System) (o : Action) → (stepped s (whole o)).refusal ≡ 0 → NotRefused s o
-unfolding stepped attempted permitted carried_out cut_by
-not_refused s o =
-    let P : Outcome → Type 0 = λ (a : Outcome). a.refusal ≡ 0 → NotRefused s o in
-    let c = scope_of o in
-    let to = is_one_of s.n c.actor.0 in
-    let from = is_one_of s.n c.partner.0 in
-    by_pick P (sound_system s) _ _
-    (λ sound.
-    by_pick P (to && from) _ _
-    (λ known.
-    by_pick P (variables_at s c.actor.0).crashed _ _
-    (λ crashed e. absurd (omega (arith, e)))
-    (λ live.
-    by_pick P (eqb (plan_of s o).refusal 0) _ _
-    (λ good e. record { actor = and_left to from known; partner = and_right to from known; planned = eqb-true (plan_of s o).refusal 0 good })
-    (λ bad e. record { actor = and_left to from known; partner = and_right to from known; planned = e })))
-    (λ strange e. absurd (omega (arith, e))))
-    (λ unsound e. absurd (omega (arith, e)))
+unfolding stepped attempted permitted carried_out cut_by pick
+not_refused s o = grind arith
 
 -- an allowed view
 pub view_allowed : (s : System) (p : ProcessId) (v : ℕ) → (plan_of s (Report p v)).refusal ≡ 0 → (within s.n v ≡ true) × (has v p.0 ≡ true)
-unfolding plan_of report_plan
-view_allowed s p v =
-    by_pick (λ (a : Plan). a.refusal ≡ 0 → (within s.n v ≡ true) × (has v p.0 ≡ true)) (within s.n v && has v p.0) _ _
-    (λ good e. (and_left (within s.n v) (has v p.0) good, and_right (within s.n v) (has v p.0) good))
-    (λ odd e. absurd (omega (arith, e)))
+unfolding plan_of report_plan pick
+view_allowed s p v = grind arith
 
 -- ---- every number that names a view of 1 or 2 processes is one of those tried
 view_number : (n v p : ℕ) → is_one_of 2 n ≡ true → v < 256 → within n v ≡ true → has v p ≡ true → (1 ≤ v) × (v ≤ everyone n)
@@ -155,16 +135,16 @@ code_of (Crash p) = 4 * p.0 + 3
 
 pub link_kinds : (n : ℕ) → is_one_of 2 n ≡ true → all_pass is_link_move (link_moves n) ≡ true
 unfolding all_pass is_link_move link_moves with_link_moves_at with_report each_up_to everyone pick
-link_kinds n few = one_or_two (λ m. all_pass is_link_move (link_moves m) ≡ true) n few refl refl
+link_kinds n few = grind arith
 
 pub process_kinds : (n : ℕ) → is_one_of 2 n ≡ true → all_pass is_process_move (process_moves n) ≡ true
 unfolding all_pass is_process_move process_moves with_takes_at with_take with_answers_at with_answer each_up_to
-process_kinds n few = one_or_two (λ m. all_pass is_process_move (process_moves m) ≡ true) n few refl refl
+process_kinds n few = grind arith
 
 pub link_apart : (n : ℕ) → is_one_of 2 n ≡ true → told_apart code_of (link_moves n) ≡ true
 unfolding told_apart none_is code_of link_moves with_link_moves_at with_report each_up_to everyone pick
-link_apart n few = one_or_two (λ m. told_apart code_of (link_moves m) ≡ true) n few refl refl
+link_apart n few = grind arith
 
 pub process-apart : (n : ℕ) → is_one_of 2 n ≡ true → told_apart code_of (process_moves n) ≡ true
 unfolding told_apart none_is code_of process_moves with_takes_at with_take with_answers_at with_answer each_up_to
-process-apart n few = one_or_two (λ m. told_apart code_of (process_moves m) ≡ true) n few refl refl
+process-apart n few = grind arith

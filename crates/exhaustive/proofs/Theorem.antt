@@ -9,6 +9,7 @@ use mathlib.Core.Logic.{⊎_elim}
 use native.Mathlib.Omega.{arith}
 use borrow.Author.Tests.{le-leb}
 use lib.ListN.{length}
+use Rattle.std.specs.Prelude.{Ok}
 use Rattle.view.specs.Logic.{pick, is_one_of}
 use Rattle.view.proofs.Laws.{one_of}
 use Rattle.system.specs.declared.System.{System}
@@ -19,7 +20,7 @@ use Rattle.step.proofs.Outcomes.{size_kept}
 use Rattle.agreement.specs.Demand.{start}
 use Rattle.agreement.proofs.Theorem.{demand_3}
 use Rattle.quiet.proofs.Theorem.{quiet_is_agreed}
-use Rattle.orders.specs.Orders.{Choice, pass, make, Run, ended_at, link_moves, process_moves, link_turn, process_turn, run_counts_of, walked_to, walked}
+use Rattle.orders.specs.Orders.{Choice, pass, make, Run, ended_at, link_moves, process_moves, link_turn, process_turn, run_counts_of, walked}
 use Rattle.orders.proofs.Moves.{one_or_two, one_of_eight}
 use Rattle.exhaustive.specs.Exhaustive.{is_link_move, is_process_move, chosen, is_link_run, is_process_run, events_of, AllDiffer, TriedAll}
 use Rattle.exhaustive.proofs.Beyond.{beyond_has, has_beyond}
@@ -39,16 +40,12 @@ process_run (c ∷ cs) s = refl
 
 retraced : (f g : List Choice → System → Bool) → ((cs : List Choice) (s : System) → f cs s ≡ g cs s) → (d : ℕ) (s : System) (r : Run)
     → Traced g d s r → Traced f d s r
-retraced f g same d s r t = record { deep = t.deep; runs_by = same r.choices s ∙ t.runs_by; end = t.end }
+retraced f g same d s r t = grind arith
 
 -- a run of no turn
 no_turn : (f : List Choice → System → Bool) → ((s : System) → f [] s ≡ true) → (s : System) (r : Run) → Memᴰ r (ended_at s ∷ []) → Traced f 0 s r
 unfolding events_of ran
-no_turn f empty s r m =
-    ⊎_elim
-    (λ (e : r ≡ ended_at s). subst (Traced f 0 s) (sym e) (record { deep = refl; runs_by = empty s; end = refl }))
-    (λ (none : Memᴰ r []). absurd (Memᴰ.not-nil none))
-    (Memᴰ.cases_cons m)
+no_turn f empty s r m = grind arith
 
 no_choice : (s : System) (cs : List Choice) → length cs ≡ 0 → Listed (ended_at s ∷ []) cs
 no_choice s [] long = record { run = ended_at s; listed = Memᴰ.head refl; is = refl }
@@ -95,7 +92,7 @@ module _ (n : ℕ) (few : is_one_of 2 n ≡ true) where
 
   every_listed : (d : ℕ) → EveryListed d
   unfolding link_turn
-  every_listed zero = record { link = λ s size cs long run. no_choice s cs long; process = λ s size cs long run. no_choice s cs long }
+  every_listed zero = grind (arith, no_choice)
   every_listed (suc d) =
       let before = every_listed d in
       record {
@@ -120,9 +117,9 @@ module _ (n : ℕ) (few : is_one_of 2 n ≡ true) where
   unfolding fresh_system
   size_of_fresh = refl
 
-  not_refused_so : (d : ℕ) → d ≤ 8 → walked n d ≡ walked_to (run_counts_of n (link_turn d n (fresh_system n)))
+  not_refused_so : (d : ℕ) → d ≤ 8 → walked n d ≡ Ok (run_counts_of n (link_turn d n (fresh_system n)))
   unfolding walked pick
-  not_refused_so d h = rw (one_of_eight n few, le-leb n 2 (one_of 2 n few).1, le-leb d 8 h)
+  not_refused_so d h = grind arith
 
   pub tried_them_all : (d : ℕ) → TriedAll n d
   tried_them_all d =

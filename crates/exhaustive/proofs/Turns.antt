@@ -24,13 +24,10 @@ abbrev choices_of : Run → List Choice
 choices_of r = r.choices
 
 only_one : (o m : Action) → Memᴰ m (o ∷ []) → m ≡ o
-only_one o m k = ⊎_elim (λ (e : m ≡ o). e) (λ (none : Memᴰ m []). absurd (Memᴰ.not-nil none)) (Memᴰ.cases_cons k)
+only_one o m k = grind arith
 
 first_move : (o p : Action) (r q : Run) → (begun_with (make o) r).choices ≡ (begun_with (make p) q).choices → o ≡ p
 first_move o p r q e = cc
-
-pass_or_move : (o : Action) (r q : Run) → (begun_with pass r).choices ≡ (begun_with (make o) q).choices → ⊥
-pass_or_move o r q e = let z : ◌≡◌ {A = ℕ} 0 1 = cc in omega arith
 
 -- the choices of a turn, and then those of the others
 unfoldable pub is_run_by : (Action → Bool) → (List Choice → System → Bool) → List Choice → System → Bool
@@ -117,9 +114,8 @@ module _ (next : System → List Run) (s : System) where
 
   -- ---- no two runs by different moves are alike, nor one by a move and one by a pass
   one_differs : (o : Action) → ((t : System) → AllDiffer (next t)) → AllDiffer (begun_by next o (stepped s (whole o)))
-  unfolding begun_by AllDiffer
-  one_differs o each =
-      by_pick AllDiffer (eqb (stepped s (whole o)).refusal 0) _ _ (λ e. differ_begun (make o) (next (stepped s (whole o)).system) (each (stepped s (whole o)).system)) (λ e. tt)
+  unfolding begun_by AllDiffer pick
+  one_differs o each = grind (arith, differ_begun)
 
   moves_differ : (os : List Action) → told_apart code_of os ≡ true → ((t : System) → AllDiffer (next t)) → AllDiffer (by_moves next s os)
   unfolding by_moves told_apart AllDiffer
@@ -136,12 +132,7 @@ module _ (next : System → List Run) (s : System) where
 
   pub turn_differs : (os : List Action) → told_apart code_of os ≡ true → ((t : System) → AllDiffer (next t)) → AllDiffer (turned next s os)
   unfolding turned
-  turn_differs os apart each =
-      differ_append (map (begun_with pass) (next s)) (by_moves next s os) (differ_begun pass (next s) (each s)) (moves_differ os apart each)
-      (λ r q m k same.
-      let a = from_map (begun_with pass) (next s) m in
-      let b = by_move os q k in
-      pass_or_move b.move a.0 b.rest (sym (ap choices_of a.2) ∙ same ∙ ap choices_of b.is))
+  turn_differs os apart each = grind (arith, differ_append, differ_begun, moves_differ, from_map, by_move)
 
   -- ---- each run that begins with the turn
   module _ (is_move : Action → Bool) (is_rest : List Choice → System → Bool) (d : ℕ) (os : List Action) where

@@ -1,6 +1,6 @@
 -- S-8: "Instructors want to say "I tried them all"." Which choices make a run, told without the walk; and that the walk has each such run,
 -- once, and no other.
-use Rattle.std.specs.Prelude.{ℕ, ◌≤◌, ◌≡◌, Bool, true, false, ◌&&◌, eqb, ltb, length}
+use Rattle.std.specs.Prelude.{ℕ, ◌≤◌, ◌≡◌, Bool, true, false, ◌&&◌, Ok, eqb, ltb, length}
 use mathlib.Core.List.{List, [], ◌∷◌, Memᴰ}
 use Rattle.system.specs.declared.System.{System}
 use Rattle.system.specs.Process.{is_written}
@@ -12,7 +12,7 @@ use Rattle.plan.specs.Cut.{whole}
 use Rattle.step.specs.Step.{stepped, Event, does, ran}
 use Rattle.agreement.specs.Demand.{Demand, start}
 use Rattle.quiet.specs.Quiet.{Quiet}
-use Rattle.orders.specs.Orders.{Choice, pass, make, Run, link_turn, goes_beyond, run_counts_of, walked_to, walked}
+use Rattle.orders.specs.Orders.{Choice, pass, make, Run, link_turn, goes_beyond, run_counts_of, walked}
 
 -- ---- what a run is
 -- "The link may report any allowed view at one unit, stop one": a view is "kept as one byte"
@@ -80,7 +80,7 @@ pub record EntryBeyond (n : ℕ) (s : System) : Type 0 where
 
 pub record TriedAll (n depth : ℕ) : Type 0 where
   -- what is counted is these runs
-  pub counts : depth ≤ 8 → walked n depth ≡ walked_to (run_counts_of n (link_turn depth n (fresh_system n)))
+  pub counts : depth ≤ 8 → walked n depth ≡ Ok (run_counts_of n (link_turn depth n (fresh_system n)))
   -- those that are told as ending with an entry beyond index 1 do, and no others
   pub entered_has : (s : System) → goes_beyond n s ≡ true → EntryBeyond n s
   pub has_entered : (s : System) → EntryBeyond n s → goes_beyond n s ≡ true

@@ -5,6 +5,7 @@ use mathlib.Core.Bool.{true, ◌||◌}
 use mathlib.Core.List.{List, ◌++◌}
 use native.Mathlib.Omega.{arith}
 use lib.Dec.{ltb}
+use Rattle.view.specs.Logic.{pick}
 use Rattle.view.proofs.Laws.{by_pick}
 use Rattle.system.specs.declared.System.{System}
 use Rattle.sound.specs.Sound.{sound_system}
@@ -13,8 +14,7 @@ use Rattle.step.specs.Rest.{at_rest}
 use Rattle.step.proofs.Outcomes.{ran_append}
 use Rattle.settle.specs.declared.Ending.{Ending}
 use Rattle.settle.specs.declared.Ending.TheVariants.{Rest}
-use Rattle.settle.specs.declared.Settled.{Settled}
-use Rattle.settle.specs.Settle.{Progress, nothing_to_do, ending_of, ended_with, settled}
+use Rattle.settle.specs.Settle.{Settled, Progress, nothing_to_do, ending_of, ended_with, settled}
 use Rattle.bound.proofs.Settling.{settles_by}
 use Rattle.agreement.specs.Demand.{start}
 use Rattle.quiet.specs.Quiet.{is_common, Final}
@@ -23,21 +23,12 @@ use Rattle.quiet.proofs.Theorem.{quiet_is_agreed}
 
 -- a run that says rest leaves a system at rest
 rest_is_rest : (budget : ℕ) (x : Progress) → ending_of budget x ≡ Rest → at_rest x.system ≡ true
-unfolding ending_of
-rest_is_rest budget x =
-    by_pick Says (ltb x.steps budget || nothing_to_do x.system) _ _
-    (λ e. by_pick Says (at_rest x.system) _ _ (λ rest said. rest) (λ held said. absurd (let z : ◌≡◌ {A = ℕ} 0 1 = cc in omega arith)))
-    (λ e said. absurd (let z : ◌≡◌ {A = ℕ} 0 1 = cc in omega arith))
-  where
-    Says : Ending → Type 0
-    Says e = e ≡ Rest → at_rest x.system ≡ true
+unfolding ending_of pick
+rest_is_rest budget x = grind arith
 
 rest_said : (budget : ℕ) (s : System) → (settled budget s).ending ≡ Rest → at_rest (settled budget s).system ≡ true
-unfolding settled ended_with
-rest_said budget s =
-    by_pick (λ (o : Settled). o.ending ≡ Rest → at_rest o.system ≡ true) (sound_system s) _ _
-    (λ e. rest_is_rest budget _)
-    (λ e said. absurd (let z : ◌≡◌ {A = ℕ} 0 1 = cc in omega arith))
+unfolding settled ended_with pick
+rest_said budget s = grind (arith, rest_is_rest)
 
 pub settled_is_agreed : (budget n : ℕ) (es : List Event) → SettledQuiet budget n es
 settled_is_agreed budget n es v said common =

@@ -33,7 +33,7 @@ module _ (n : ℕ) (size : is_one_of 8 n ≡ true) where
   -- the entry of each process at index 1
   pub fresh_entry : (p : ℕ) → 1 ≤ p → p ≤ n → entry_in s p 1 ≡ everyone n
   unfolding entry_in fresh_process
-  fresh_entry p low high = ap (λ (x : Process). entry_at x.history 1) (fresh_process_lem n p low (omega (arith, one_of 8 n size))) ∙ first_entry n
+  fresh_entry p low high = grind (arith, fresh_process_lem, first_entry)
 
   fresh_untouched : (p : ℕ) → 1 ≤ p → (least_of (variables_at s p).view).0 ≡ p → Untouched n (variables_at s p)
   unfolding fresh_process fresh_variables no_process least_of first_from has pick
@@ -48,43 +48,14 @@ module _ (n : ℕ) (size : is_one_of 8 n ≡ true) where
 
   -- its least process is 1
   first_leads : (u w i : ℕ) → accepted (opening n) u w i ≡ true → (least_of w).0 ≡ 1
-  first_leads u w i e = ap (λ (v : ℕ). (least_of v).0) (opened u w i e).view ∙ everyone_least n size
+  first_leads u w i e = grind (arith, opened, everyone_least)
 
   fresh_standing : Standing (gone (fresh_system n)) (fresh_system n) (opening n)
   unfolding fresh_system fresh_variables
-  fresh_standing =
-      let b = one_of 8 n size in
-      record {
-        reaches = λ u w i e.
-            subst (λ (j : ℕ). i ≤ (variables_at s j).propout.0) (sym (first_leads u w i e))
-            (rw (opened u w i e).index (subst (λ (x : Variables). 1 ≤ x.propout.0) (sym (fresh 1 (omega arith) b.0)) (omega arith)));
-        untouched = λ p low stays none least. fresh_untouched p low least;
-        loyal = λ p u f.
-            let o = opened u _ _ f.accepts in
-            record {
-              untrusted = λ lacks. true_is_not_false (sym (named p u f o) ∙ lacks);
-              included = λ has_p w j above e. absurd (omega (arith, above, o.index, (opened u w j e).index));
-            };
-        next = λ p stays least e.
-            let o = opened p _ _ e in
-            omega (arith, o.index, subst (λ (x : Variables). x.next.0 ≡ 2) (sym (fresh p o.low o.high)) refl);
-      }
-    where
-      named : (p u : ℕ) → Followed (gone (fresh_system n)) (fresh_system n) (opening n) p u → Opened n (everyone n) u (variables_at s p).view (variables_at s p).propout.0
-          → has (variables_at s u).view p ≡ true
-      named p u f o =
-          let least : p ≡ 1 = sym f.least ∙ first_leads u _ _ f.accepts in
-          rw least
-          (subst (λ (x : Variables). has x.view 1 ≡ true) (sym (fresh u o.low o.high))
-          (everyone-has n 1 (one_of 8 n size).1 ∙ is_one_of_lem n 1 (omega arith) (one_of 8 n size).0))
+  fresh_standing = grind (arith, first_leads, opened, fresh, fresh_untouched, everyone-has)
 
   fresh_pursuit : Pursuit (gone (fresh_system n)) (fresh_system n)
-  fresh_pursuit =
-      record {
-        live = λ k e. e;
-        incomplete = λ p some. absurd (some (fresh_proposal n p));
-        pursued = λ p stays some. absurd (some (fresh_proposal n p));
-      }
+  fresh_pursuit = grind (arith, fresh_proposal)
 
   pub fresh_orderly : Orderly (fresh_system n) (opening n)
   fresh_orderly = record { reached = fresh_opened n size; proposals = fresh_proposals n; pursuit = fresh_pursuit; standing = fresh_standing }

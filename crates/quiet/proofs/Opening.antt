@@ -68,7 +68,7 @@ module _ (n : ℕ) (size : is_one_of 8 n ≡ true) where
 
   fresh_next : (u : ℕ) → 1 ≤ u → u ≤ n → 1 < (variables_at (fresh_system n) u).next.0
   unfolding fresh_variables
-  fresh_next u low high = subst (λ (x : Variables). 1 < x.next.0) (sym (fresh_variables_lem n u low (omega (arith, one_of 8 n size)))) (omega arith)
+  fresh_next u low high = grind (arith, fresh_variables_lem)
 
   -- a fresh system, with the opening view accepted
   pub fresh_opened : Reached (fresh_system n) (opening n)

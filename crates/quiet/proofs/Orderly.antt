@@ -3,13 +3,14 @@ use Prim.Native.Nat.{ℕ}
 use mathlib.Core.Path.{◌≡◌, refl, sym, ◌∙◌, ap, subst}
 use mathlib.Core.Bool.{Bool, false}
 use mathlib.Core.List.{List, [], ◌∷◌, ◌++◌, append-nil, append_assoc}
+use native.Mathlib.Omega.{arith}
 use borrow.Author.Tests.{ne_eqb}
 use lib.Dec.{eqb}
 use Rattle.view.specs.Logic.{pick}
 use Rattle.view.proofs.Laws.{by_number}
 use Rattle.system.specs.declared.Process.{Process}
 use Rattle.system.specs.declared.System.{System}
-use Rattle.system.specs.declared.Outcome.{Outcome}
+use Rattle.system.specs.Outcome.{Outcome}
 use Rattle.system.specs.System.{variables_at}
 use Rattle.plan.specs.declared.Action.{Action}
 use Rattle.plan.specs.declared.Step.{Step}
@@ -40,15 +41,7 @@ pub record Orderly (s : System) (acc : List Acceptance) : Type 0 where
   pub standing : Standing (gone s) s acc
 
 staying : {s t : System} {o : Action} → Transition s t o → Staying (gone s) (gone t) t
-staying {s} {t} {o} k =
-    let e = outline k in
-    record {
-      still = λ j live.
-          by_number j (scope_of o).actor.0
-          (λ i. subst (λ (m : ℕ). (variables_at s m).crashed ≡ false) (sym i) e.acts.live)
-          (λ h. sym (ap (λ (x : Process). x.variables.crashed) (e.effect.others j h)) ∙ live);
-      live = λ j live. live;
-    }
+staying {s} {t} {o} k = grind arith
 
 transition_orderly : {s t : System} {acc : List Acceptance} (o : Action) → Transition s t o → Orderly s acc → Orderly t (acc ++ acceptances s o)
 transition_orderly o k z =

@@ -5,17 +5,16 @@ use mathlib.Core.Path.{◌≡◌, refl, sym, ◌∙◌, subst}
 use mathlib.Core.Bool.{Bool, true}
 use mathlib.Core.List.{List, [], ◌∷◌, ◌++◌}
 use native.Mathlib.Omega.{arith}
+use Rattle.std.specs.Prelude.{None, Some}
 use Rattle.view.specs.declared.GroupIndex.{GroupIndex}
 use Rattle.view.specs.View.{has, least_of}
 use Rattle.view.proofs.Laws.{Each, each_as, by_number}
 use Rattle.view.proofs.Sets.{has_none}
 use Rattle.channel.specs.declared.Message.{Message}
 use Rattle.channel.specs.declared.Message.TheVariants.{Propose, Retry, Acc, Commit}
-use Rattle.system.specs.declared.Pending.{Pending}
-use Rattle.system.specs.declared.Pending.TheVariants.{Nothing, Proposal}
 use Rattle.system.specs.declared.Variables.{Variables}
 use Rattle.system.specs.declared.System.{System}
-use Rattle.system.specs.Process.{pending_at}
+use Rattle.system.specs.Process.{pending_at, Pending, proposal_of}
 use Rattle.system.specs.System.{process_at, variables_at}
 use Rattle.system.specs.Fresh.{fresh_system}
 use Rattle.plan.specs.declared.Change.{Change}
@@ -38,8 +37,8 @@ Led q (Commit v i) = Unit {0}
 
 -- and so is what is recorded from q
 abbrev pub LedRecord : ℕ → Pending → Type 0
-LedRecord q Nothing = Unit {0}
-LedRecord q (Proposal v i) = (least_of v).0 ≡ q
+LedRecord q None = Unit {0}
+LedRecord q (Some r) = (least_of r.view).0 ≡ q
 
 -- ---- indices that rise from proposal to proposal
 -- a proposal is above index k
@@ -62,8 +61,8 @@ Rising k (m ∷ ms) = Above k m × Rising (raised k m) ms
 
 -- the index of what is recorded; 0 where nothing is
 abbrev pub index_of : Pending → ℕ
-index_of Nothing = 0
-index_of (Proposal v i) = i.0
+index_of None = 0
+index_of (Some r) = r.index.0
 
 rising_down : (j k : ℕ) → j ≤ k → (ms : List Message) → Rising k ms → Rising j ms
 rising_down j k l [] e = tt
@@ -104,19 +103,7 @@ pub record Proposals (s : System) : Type 0 where
 rising_left : {s : System} {q p : ℕ} {m : Message} {left : ℕ → ℕ → List Message} → Taken s q p m left → ((k : ℕ) → raised k m ≡ k) → (a b k : ℕ)
     → Rising k (waiting_at s a b)
     → Rising k (left a b)
-rising_left {s} {q} {p} {m} {left} taken flat a b k e =
-    by_number a q
-    (λ x.
-    by_number b p
-    (λ y.
-    subst (λ (i : ℕ). Rising k (left i b)) (sym x)
-    (subst (λ (j : ℕ). Rising k (left q j)) (sym y)
-    (rest (subst (λ (i : ℕ). Rising k (waiting_at s i p)) x (subst (λ (j : ℕ). Rising k (waiting_at s a j)) y e)))))
-    (λ h. subst (Rising k) (sym (taken.others a b (λ z. h z.1))) e))
-    (λ h. subst (Rising k) (sym (taken.others a b (λ z. h z.0))) e)
-  where
-    rest : Rising k (waiting_at s q p) → Rising k (left q p)
-    rest h = subst (λ (j : ℕ). Rising j (left q p)) (flat k) (subst (Rising k) taken.first h).1
+rising_left {s} {q} {p} {m} {left} taken flat a b k e = grind arith
 
 -- ---- an effect
 module _ {s t : System} {left : ℕ → ℕ → List Message} {p : ℕ} {c : Change} {stops : Bool} {to : ℕ} {m : Message} (f : Effect s t left p c stops to m)
@@ -133,15 +120,7 @@ module _ {s t : System} {left : ℕ → ℕ → List Message} {p : ℕ} {c : Cha
             each_process f (λ k y. (j : ℕ) → LedRecord j (pending_at y j))
             (each_pending LedRecord (process_at s p) c stops (λ l. new) (o.led_record p))
             o.led_record;
-        rising = λ a b.
-            elim (f.channels a b) [
-              | stays e ↦ subst (Rising _) (sym e) (rest a b)
-              | grows e told live g ↦
-                  subst (Rising _) (sym g)
-                  (rising_end _ (left a b) m (rest a b)
-                  (subst (λ (k : ℕ). Above (top (index_of (pending_at (process_at t b) k)) (left k b)) m) (sym e) (above b (f.addressed b told))))
-              | empties e stop g ↦ subst (Rising _) (sym g) tt
-            ];
+        rising = grind (arith, rising_end);
       }
 
   -- no record is made or cleared
@@ -159,8 +138,8 @@ quiet_proposals f o part new rest = effect_proposals f o part new rest (λ b nam
 
 -- ---- PropOut is at least at what waits and is recorded
 recorded_not_above : (at : ℕ → Variables) (q : ℕ) (y : Pending) → Recorded at q y → index_of y ≤ (at q).propout.0
-recorded_not_above at q Nothing h = omega arith
-recorded_not_above at q (Proposal v i) h = h.bound
+recorded_not_above at q None h = omega arith
+recorded_not_above at q (Some r) h = h.bound
 
 waiting_not_above : (acc : List Acceptance) (at : ℕ → Variables) (q u : ℕ) (m : Message) → Honest acc at q u m → NotAbove (at q).propout.0 m
 waiting_not_above acc at q u (Propose v i) h = h.bound
@@ -182,7 +161,7 @@ module _ {s t : System} {acc : List Acceptance} (r : Reached s acc) (o : Proposa
       (r.messages p b))))
 
   -- an answer clears the record of q
-  cleared : {p q : ℕ} {c : Change} {stops : Bool} {to : ℕ} {m : Message} → Effect s t (waiting_at s) p c stops to m → c.pending ≡ Nothing → c.proposer.0 ≡ q
+  cleared : {p q : ℕ} {c : Change} {stops : Bool} {to : ℕ} {m : Message} → Effect s t (waiting_at s) p c stops to m → c.pending ≡ None → c.proposer.0 ≡ q
       → Known s q
       → (a b : ℕ)
       → Rising (index_of (pending_at (process_at t b) a)) (waiting_at s a b)
@@ -204,7 +183,7 @@ module _ {s t : System} {acc : List Acceptance} (r : Reached s acc) (o : Proposa
   recorded_rising : {q p : ℕ} {w : ℕ} {i : GroupIndex} {left : ℕ → ℕ → List Message} {c : Change} {stops : Bool} {to : ℕ} {m : Message}
       → Taken s q p (Propose w i) left
       → Effect s t left p c stops to m
-      → c.pending ≡ Proposal w i
+      → c.pending ≡ Some (proposal_of w i)
       → c.proposer.0 ≡ q
       → Known s q
       → (a b : ℕ)
@@ -255,9 +234,4 @@ module _ {s t : System} {acc : List Acceptance} (r : Reached s acc) (o : Proposa
 
 -- at the start there is none
 pub fresh_proposals : (n : ℕ) → Proposals (fresh_system n)
-fresh_proposals n =
-    record {
-      led = λ q u. rw (nothing_waits n q u) tt;
-      led_record = λ u q. rw (nothing_recorded n u q) tt;
-      rising = λ q u. rw (nothing_waits n q u) tt;
-    }
+fresh_proposals n = grind (arith, nothing_waits, nothing_recorded)

@@ -5,19 +5,19 @@ use mathlib.Core.Path.{◌≡◌, sym, ◌∙◌, subst}
 use mathlib.Core.Bool.{Bool, true, false}
 use mathlib.Core.List.{List}
 use mathlib.Core.Logic.{◌⊎◌, inl, inr, ⊎_elim}
+use Rattle.std.specs.Prelude.{None, Some, Any}
+use Rattle.std.proofs.lemmas.List.Quantifiers.{Any-push}
 use Rattle.view.specs.declared.GroupIndex.{GroupIndex}
 use Rattle.view.specs.View.{has, subset, least_of}
 use Rattle.channel.specs.declared.Message.{Message}
 use Rattle.channel.specs.declared.Message.TheVariants.{Propose, Retry, Acc, Commit}
-use Rattle.system.specs.declared.Pending.{Pending}
-use Rattle.system.specs.declared.Pending.TheVariants.{Nothing, Proposal}
 use Rattle.system.specs.declared.System.{System}
-use Rattle.system.specs.Process.{pending_at}
+use Rattle.system.specs.Process.{pending_at, Pending}
 use Rattle.system.specs.System.{process_at, variables_at, entry_in}
 use Rattle.plan.specs.declared.Change.{Change}
 use Rattle.step.proofs.Cases.{waiting_at, Effect}
 use Rattle.agreement.proofs.Changes.{Since}
-use Rattle.quiet.proofs.Remains.{Some, some_end, some_kept, live_goes_on}
+use Rattle.quiet.proofs.Remains.{some_kept, live_goes_on}
 use Rattle.quiet.proofs.Turns.{Steady}
 
 -- ---- messages about a proposal at index o
@@ -44,19 +44,19 @@ Concludes v o (Commit w i) = (w ≡ v) × (i.0 ≡ o)
 
 -- a record of it
 abbrev pub Notes : ℕ → Pending → Type 0
-Notes o Nothing = ⊥
-Notes o (Proposal v i) = i.0 ≡ o
+Notes o None = ⊥
+Notes o (Some r) = r.index.0 ≡ o
 
 -- ---- the proposal of process p at index o, at process u
 pub data Underway (s : System) (o p u : ℕ) : Type 0 where
-  asked : Some (Asks o) (waiting_at s p u) → Underway s o p u
+  asked : Any (Asks o) (waiting_at s p u) → Underway s o p u
   noted : Notes o (pending_at (process_at s u) p) → Underway s o p u
-  replied : Some (Replies o) (waiting_at s u p) → Underway s o p u
+  replied : Any (Replies o) (waiting_at s u p) → Underway s o p u
   marked : has (variables_at s p).acks u ≡ true → Underway s o p u
 
 -- and once it is agreed
 pub data Concluded (s : System) (v o p u : ℕ) : Type 0 where
-  announced : Some (Concludes v o) (waiting_at s p u) → Concluded s v o p u
+  announced : Any (Concludes v o) (waiting_at s p u) → Concluded s v o p u
   written : entry_in s u o ≡ v → Concluded s v o p u
 
 -- one or the other, for all processes of the view at once
@@ -75,7 +75,7 @@ pub record Pursuit (gone : ℕ → Bool) (s : System) : Type 0 where
 -- ---- an effect, after which the same proposal is pursued
 -- a message about to be lost, and those that are left
 abbrev pub Losing : System → (ℕ → ℕ → List Message) → ((Message → Type 0) → ℕ → ℕ → Type 0) → Type 1
-Losing s left Lost = (P : Message → Type 0) (a b : ℕ) → Some P (waiting_at s a b) → Some P (left a b) ⊎ Lost P a b
+Losing s left Lost = (P : Message → Type 0) (a b : ℕ) → Any P (waiting_at s a b) → Any P (left a b) ⊎ Lost P a b
 
 -- nothing is taken
 abbrev pub NoLoss : (Message → Type 0) → ℕ → ℕ → Type 0
@@ -147,7 +147,7 @@ module _ {gone then : ℕ → Bool} {s t : System} (g : Staying gone then t) (si
       → (u : ℕ)
       → has to u ≡ true
       → then u ≡ false
-      → Some P (waiting_at t a u)
+      → Any P (waiting_at t a u)
   reaching {left} {a} {m = m} f stays P h u named lasts =
       let on = live_goes_on f (g.live a stays) in
-      subst (Some P) (sym (f.sent u (f.whole on u named) (w.live u (g.still u lasts)) (λ e. on))) (some_end P (left a u) m h)
+      subst (Any P) (sym (f.sent u (f.whole on u named) (w.live u (g.still u lasts)) (λ e. on))) (Any-push P (left a u) m h)

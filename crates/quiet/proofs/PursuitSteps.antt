@@ -6,6 +6,7 @@ use mathlib.Core.List.{List}
 use mathlib.Core.Logic.{inl, inr}
 use native.Mathlib.Omega.{arith}
 use lib.ListN.{length}
+use Rattle.std.specs.Prelude.{None, Some, Any}
 use Rattle.view.specs.declared.ProcessId.{ProcessId}
 use Rattle.view.specs.declared.GroupIndex.{GroupIndex}
 use Rattle.view.specs.View.{has, subset, with, least_of}
@@ -13,12 +14,10 @@ use Rattle.view.proofs.Laws.{by_number, by_test, at_put_same}
 use Rattle.view.proofs.Sets.{has_none, not_empty, subset-has, with_new, with_old}
 use Rattle.channel.specs.declared.Message.{Message}
 use Rattle.channel.specs.declared.Message.TheVariants.{Propose}
-use Rattle.system.specs.declared.Pending.{Pending}
-use Rattle.system.specs.declared.Pending.TheVariants.{Nothing, Proposal}
 use Rattle.system.specs.declared.Variables.{Variables}
 use Rattle.system.specs.declared.Process.{Process}
 use Rattle.system.specs.declared.System.{System}
-use Rattle.system.specs.Process.{entry_at, with_entry, pending_at}
+use Rattle.system.specs.Process.{entry_at, with_entry, pending_at, Pending, proposal_of}
 use Rattle.system.specs.System.{process_at, variables_at, entry_in}
 use Rattle.plan.specs.declared.Change.{Change}
 use Rattle.plan.specs.declared.Action.{Action}
@@ -29,7 +28,7 @@ use Rattle.agreement.specs.Accepted.{Acceptance}
 use Rattle.agreement.proofs.Invariant.{Reached}
 use Rattle.agreement.proofs.Changes.{Since, at_actor}
 use Rattle.agreement.proofs.Steps.{honest_first}
-use Rattle.quiet.proofs.Remains.{Some, some_left, recorded_new, recorded_other, recorded_same}
+use Rattle.quiet.proofs.Remains.{some_left, recorded_new, recorded_other, recorded_same}
 use Rattle.quiet.proofs.Proposals.{Rising, index_of, Proposals}
 use Rattle.quiet.proofs.Turns.{Steady, same_steady, actor_steady}
 use Rattle.quiet.proofs.Pursuit.{Asks, Replies, Concludes, Notes, Underway, asked, noted, replied, marked, Concluded, announced, written, Pursued, Pursuit, none_lost, Staying, pursue, reaching}
@@ -39,8 +38,8 @@ none_marked : (v k : ℕ) → has v k ≡ true → subset v 0 ≡ false
 none_marked v k h = by_test (subset v 0) (λ e. absurd (has_none k (subset-has v 0 k e h))) (λ e. e)
 
 noted_index : (o : ℕ) (y : Pending) → Notes o y → index_of y ≡ o
-noted_index o Nothing h = absurd h
-noted_index o (Proposal v i) h = h
+noted_index o None h = absurd h
+noted_index o (Some r) h = h
 
 -- ---- an effect
 module _ {s t : System} {left : ℕ → ℕ → List Message} {a : ℕ} {c : Change} {stops : Bool} {to : ℕ} {m : Message} (f : Effect s t left a c stops to m) where
@@ -56,14 +55,13 @@ module _ {s t : System} {left : ℕ → ℕ → List Message} {a : ℕ} {c : Cha
 
   -- the marks that there were are there
   other_acks : (p : ℕ) → (p ≡ a → ⊥) → (u : ℕ) → has (variables_at s p).acks u ≡ true → has (variables_at t p).acks u ≡ true
-  other_acks p h u = subst (λ (x : Process). has x.variables.acks u ≡ true) (sym (f.others p h))
+  other_acks p h u = grind arith
 
   all_acks : ((u : ℕ) → has (variables_at s a).acks u ≡ true → has c.variables.acks u ≡ true) → (p u : ℕ)
       → has (variables_at s p).acks u ≡ true
       → has (variables_at t p).acks u ≡ true
   unfolding afterwards
-  all_acks more p u =
-      each_process f (λ k y. has (variables_at s k).acks u ≡ true → has y.variables.acks u ≡ true) (more u) (λ k e. e) p
+  all_acks more p u = grind arith
 
   -- not all of a proposed view are marked
   all_incomplete : {gone : ℕ → Bool} → Pursuit gone s
@@ -72,14 +70,12 @@ module _ {s t : System} {left : ℕ → ℕ → List Message} {a : ℕ} {c : Cha
       → ((variables_at t p).proposal ≡ 0 → ⊥)
       → subset (variables_at t p).proposal (variables_at t p).acks ≡ false
   unfolding afterwards
-  all_incomplete w own =
-      each_process f (λ k y. (y.variables.proposal ≡ 0 → ⊥) → subset y.variables.proposal y.variables.acks ≡ false) own w.incomplete
+  all_incomplete w own = grind arith
 
   -- the entry of the change
   entry_new : 1 ≤ c.index.0 → c.index.0 ≤ length (process_at s a).history.entries → entry_in t a c.index.0 ≡ c.entry
   unfolding afterwards entry_in entry_at with_entry
-  entry_new low high =
-      ap (λ (x : Process). entry_at x.history c.index.0) f.actor ∙ at_put_same (process_at s a).history.entries c.index.0 c.entry 0 low high
+  entry_new low high = grind (arith, at_put_same)
 
 -- ---- the transitions
 module _ {gone then : ℕ → Bool} {s t : System} {acc : List Acceptance} (g : Staying gone then t) (r : Reached s acc) (o : Proposals s) (since : Since s t)
@@ -139,7 +135,7 @@ module _ {gone then : ℕ → Bool} {s t : System} {acc : List Acceptance} (g : 
       (all_acks k.effect (λ u e. e) x)
       (λ u e. absurd e.this)
     where
-      new : pending_at (process_at t p.0) q.0 ≡ Proposal k.view k.index
+      new : pending_at (process_at t p.0) q.0 ≡ Some (proposal_of k.view k.index)
       new = recorded_new k.effect r.shape k.partner
 
       fresh : {u : ℕ} → u ≡ p.0 → x ≡ q.0 → k.index.0 ≡ (variables_at s x).propout.0 → Notes (variables_at s x).propout.0 (pending_at (process_at t u) x)
@@ -159,7 +155,7 @@ module _ {gone then : ℕ → Bool} {s t : System} {acc : List Acceptance} (g : 
   -- an answer to the recorded proposal at index i
   answering : {a q : ℕ} {c : Change} {stops : Bool} {m : Message} → Effect s t (waiting_at s) a c stops (with 0 q) m → c.proposer.0 ≡ q → Known s q
       → {v : ℕ} {i : GroupIndex}
-      → pending_at (process_at s a) q ≡ Proposal v i
+      → pending_at (process_at s a) q ≡ Some (proposal_of v i)
       → Replies i.0 m
       → (p : ℕ)
       → Steady s t p
@@ -175,12 +171,12 @@ module _ {gone then : ℕ → Bool} {s t : System} {acc : List Acceptance} (g : 
       (λ u e. absurd e)
     where
       answer : (u : ℕ) → u ≡ a → p ≡ q → then u ≡ false → Notes (variables_at s p).propout.0 (pending_at (process_at s u) p)
-          → Some (Replies (variables_at s p).propout.0) (waiting_at t u p)
+          → Any (Replies (variables_at s p).propout.0) (waiting_at t u p)
       answer u y z l e =
           let at-u = subst (λ (j : ℕ). Notes (variables_at s p).propout.0 (pending_at (process_at s j) p)) y e in
           let at-q = subst (λ (j : ℕ). Notes (variables_at s p).propout.0 (pending_at (process_at s a) j)) z at-u in
           let same : i.0 ≡ (variables_at s p).propout.0 = subst (Notes (variables_at s p).propout.0) recorded at-q in
-          subst (λ (j : ℕ). Some (Replies (variables_at s p).propout.0) (waiting_at t j p)) (sym y)
+          subst (λ (j : ℕ). Any (Replies (variables_at s p).propout.0) (waiting_at t j p)) (sym y)
           (reaching g since w f (rw y at l) (Replies (variables_at s p).propout.0) (subst (λ (j : ℕ). Replies j m) same reply) p
           (rw z (with_new 0 q known.low known.eight))
           stays)

@@ -8,17 +8,16 @@ use mathlib.Core.Logic.{⊎_elim}
 use native.Mathlib.Omega.{arith}
 use borrow.Author.Tests.{eqb-true, eq-eqb, ne_eqb, ltb-true, not-true}
 use lib.Dec.{eqb, ltb}
+use Rattle.std.specs.Prelude.{None, Some, Any}
 use Rattle.view.specs.Logic.{pick, all_up_to}
 use Rattle.view.specs.View.{has, within, subset, everyone, least_of}
 use Rattle.view.proofs.Laws.{and_left, and_right, all_elim, by_number, true_is_not_false}
 use Rattle.view.proofs.Sets.{has_number, has_inside, not_empty}
 use Rattle.channel.specs.declared.Channel.{Channel}
 use Rattle.channel.specs.Channel.{waiting}
-use Rattle.system.specs.declared.Pending.{Pending}
-use Rattle.system.specs.declared.Pending.TheVariants.{Nothing, Proposal}
 use Rattle.system.specs.declared.Variables.{Variables}
 use Rattle.system.specs.declared.System.{System}
-use Rattle.system.specs.Process.{pending_at}
+use Rattle.system.specs.Process.{pending_at, Pending}
 use Rattle.system.specs.System.{process_at, variables_at, channel_at, entry_in}
 use Rattle.step.specs.Rest.{idle_from, matches, answerable, resting_from, resting_at, at_rest}
 use Rattle.step.proofs.Soundness.{Sound, SoundVariables}
@@ -27,7 +26,7 @@ use Rattle.agreement.specs.Accepted.{Acceptance, accepted}
 use Rattle.agreement.proofs.Invariant.{Recorded, Entered}
 use Rattle.quiet.specs.Quiet.{last_up_to, last_non_empty, local_if_named, is_common, Final}
 use Rattle.quiet.proofs.Views.{least_named, part_by_processes}
-use Rattle.quiet.proofs.Remains.{Some}
+use Rattle.quiet.proofs.Remains.{none_of_empty}
 use Rattle.quiet.proofs.Standing.{Followed, Untouched}
 use Rattle.quiet.proofs.Pursuit.{Notes, Underway, asked, noted, replied, marked, Concluded, announced, written}
 use Rattle.quiet.proofs.Orderly.{Orderly}
@@ -103,8 +102,8 @@ pub record Begun (s : System) (acc : List Acceptance) : Type 0 where
 matched : (at : ℕ → Variables) (p : ℕ) (y : Pending) → Notes (at p).propout.0 y → Recorded at p y → ((at p).proposal ≡ 0 → ⊥)
     → matches (at p).proposal y ≡ true
 unfolding matches
-matched at p Nothing e recorded some = absurd e
-matched at p (Proposal w i) e recorded some = eq-eqb w (at p).proposal (recorded.same e some)
+matched at p None e recorded some = absurd e
+matched at p (Some r) e recorded some = eq-eqb r.view (at p).proposal (recorded.same e some)
 
 module _ {s : System} {acc : List Acceptance} (orderly : Orderly s acc) (sound : Sound s) (begun : Begun s acc) (resting : Resting s) {v : ℕ} (common : Common s v)
     (leader : has v (least_of v).0 ≡ true) where
@@ -116,13 +115,13 @@ module _ {s : System} {acc : List Acceptance} (orderly : Orderly s acc) (sound :
   o = (variables_at s (least_of v).0).propout.0
 
   known : (u : ℕ) → has v u ≡ true → Known s u
-  known u h = record { low = (has_number v u h).0; high = has_inside s.n v u common.inside h; eight = (has_number v u h).1 }
+  known u h = grind (arith, has_number, has_inside)
 
   least : (least_of (variables_at s (least_of v).0).view).0 ≡ (least_of v).0
   least = ap (λ (w : ℕ). (least_of w).0) (common.view p leader)
 
   own : SoundVariables s.n (least_of v).0 (variables_at s (least_of v).0)
-  own = (sound.process p (known p leader).low (known p leader).high).variables
+  own = grind (arith, known)
 
   -- it has proposed nothing: it is the opening view, at index 1
   module _ (none : (variables_at s (least_of v).0).proposal ≡ 0) where
@@ -145,12 +144,12 @@ module _ {s : System} {acc : List Acceptance} (orderly : Orderly s acc) (sound :
 
     only_marks : (u : ℕ) → has v u ≡ true → Underway s (variables_at s (least_of v).0).propout.0 (least_of v).0 u
         → has (variables_at s (least_of v).0).acks u ≡ true
-    only_marks u h (asked e) = absurd (subst (Some _) (resting.empty p u (known p leader) (known u h)) e)
+    only_marks u h (asked e) = absurd (none_of_empty _ (subst (Any _) (resting.empty p u (known p leader) (known u h)) e))
     only_marks u h (noted e) =
         let answer = matched (variables_at s) p (pending_at (process_at s u) p) e (orderly.reached.recorded u p) proposed in
         let same : (variables_at s u).view ≡ (variables_at s p).proposal = common.view u h ∙ sym this_view in
         true_is_not_false (sym answer ∙ sym (ap (λ (w : ℕ). matches w (pending_at (process_at s u) p)) same) ∙ resting.unanswerable u p (known u h) (known p leader) (common.live u h))
-    only_marks u h (replied e) = absurd (subst (Some _) (resting.empty u p (known u h) (known p leader)) e)
+    only_marks u h (replied e) = absurd (none_of_empty _ (subst (Any _) (resting.empty u p (known u h) (known p leader)) e))
     only_marks u h (marked e) = e
 
     not_underway : ((u : ℕ) → has (variables_at s (least_of v).0).proposal u ≡ true → (variables_at s u).crashed ≡ false
@@ -164,7 +163,7 @@ module _ {s : System} {acc : List Acceptance} (orderly : Orderly s acc) (sound :
     only_written : (u : ℕ) → has v u ≡ true
         → Concluded s (variables_at s (least_of v).0).proposal (variables_at s (least_of v).0).propout.0 (least_of v).0 u
         → entry_in s u (variables_at s (least_of v).0).propout.0 ≡ v
-    only_written u h (announced e) = absurd (subst (Some _) (resting.empty p u (known p leader) (known u h)) e)
+    only_written u h (announced e) = absurd (none_of_empty _ (subst (Any _) (resting.empty p u (known p leader) (known u h)) e))
     only_written u h (written e) = e ∙ this_view
 
     agreed_written : (u : ℕ) → has v u ≡ true → entry_in s u (variables_at s (least_of v).0).propout.0 ≡ v

@@ -57,58 +57,18 @@ module _ {gone then : ℕ → Bool} (still-gone : (k : ℕ) → then k ≡ false
     (k : Taking s t acc new a) where
   -- a process other than a
   other : (j : ℕ) → (j ≡ a → ⊥) → (P : Variables → Variables → Type 0) → P (variables_at s j) (variables_at s j) → P (variables_at s j) (variables_at t j)
-  other j h P = subst (λ (x : Process). P (variables_at s j) x.variables) (sym (k.others j h))
-
-  -- what a renewed proposal is at, nobody has accepted
-  unaccepted : (p : ℕ) → Renewed s t p → (u w : ℕ) → (least_of w).0 ≡ p → accepted acc u w (variables_at t p).propout.0 ≡ true → ⊥
-  unaccepted p renewed u w least e =
-      omega (arith, renewed.up, subst (λ (j : ℕ). (variables_at t p).propout.0 ≤ (variables_at s j).propout.0) least (z.reaches u w _ e))
-
-  -- PropOut never falls
-  rises : (j : ℕ) → (variables_at s j).propout.0 ≤ (variables_at t j).propout.0
-  rises j =
-      by_number j a
-      (λ e. subst (λ (i : ℕ). (variables_at s i).propout.0 ≤ (variables_at t i).propout.0) (sym e) (own k.turn))
-      (λ h. other j h (λ x y. x.propout.0 ≤ y.propout.0) (omega arith))
-    where
-      own : Turn s t acc new a → (variables_at s a).propout.0 ≤ (variables_at t a).propout.0
-      own (new_view_lem up renewed bringing same) = up
-      own (new_index renewed view trust same) = omega (arith, renewed.up)
-      own (new_acceptance j steady member free next proposed trust one) = rw steady.propout (omega arith)
-      own (nothing_new steady next trust same) = rw steady.propout (omega arith)
+  other j h P = grind arith
 
   turn_reaches : (u w i : ℕ) → accepted new u w i ≡ true → i ≤ (variables_at t (least_of w).0).propout.0
-  turn_reaches u w i e = omega (arith, rises (least_of w).0, before k.turn)
-    where
-      as_before : new ≡ acc → i ≤ (variables_at s (least_of w).0).propout.0
-      as_before same = z.reaches u w i (rw same at e)
-
-      before : Turn s t acc new a → i ≤ (variables_at s (least_of w).0).propout.0
-      before (new_view_lem up renewed bringing same) = as_before same
-      before (new_index renewed view trust same) = as_before same
-      before (new_acceptance j steady member free next proposed trust one) =
-          ⊎_elim (z.reaches u w i) (λ (this : Same _ u w i). rw (this.view, this.index) proposed) (last_or_before acc _ u w i (rw one at e))
-      before (nothing_new steady next trust same) = as_before same
+  turn_reaches u w i e = grind (arith, last_or_before)
 
   -- ---- who is the least of its local view: it has just proposed, or nothing of it is new
   steady_other : (j : ℕ) → (j ≡ a → ⊥) → Steady s t j
   steady_other j h = same_steady (k.others j h)
 
-  leader : (p : ℕ) → (least_of (variables_at t p).view).0 ≡ p → (Renewed s t p × (new ≡ acc)) ⊎ Steady s t p
-  leader p least =
-      by_number p a
-      (λ e. subst (λ (j : ℕ). (Renewed s t j × (new ≡ acc)) ⊎ Steady s t j) (sym e) (own k.turn (subst (λ (j : ℕ). (least_of (variables_at t j).view).0 ≡ j) e least)))
-      (λ h. inr (steady_other p h))
-    where
-      own : Turn s t acc new a → (least_of (variables_at t a).view).0 ≡ a → (Renewed s t a × (new ≡ acc)) ⊎ Steady s t a
-      own (new_view_lem up renewed bringing same) e = inl (renewed e, same)
-      own (new_index renewed view trust same) e = inl (renewed, same)
-      own (new_acceptance j steady member free next proposed trust one) e = inr steady
-      own (nothing_new steady next trust same) e = inr steady
-
   -- if somebody has accepted what it proposed last, nothing of it is new
   leader_steady : (p u : ℕ) → (least_of (variables_at t p).view).0 ≡ p → accepted new u (variables_at t p).view (variables_at t p).propout.0 ≡ true → Steady s t p
-  leader_steady p u least e = ⊎_elim (λ renewed. absurd (unaccepted p renewed.0 u _ least (rw renewed.1 at e))) (λ steady. steady) (leader p least)
+  leader_steady p u least e = grind arith
 
   module _ (p : ℕ) (steady : Steady s t p) where
     least_before : (least_of (variables_at t p).view).0 ≡ p → (least_of (variables_at s p).view).0 ≡ p
@@ -120,50 +80,23 @@ module _ {gone then : ℕ → Bool} (still-gone : (k : ℕ) → then k ≡ false
         subst (λ (i : GroupIndex). accepted new u (variables_at s p).view i.0 ≡ true) steady.propout
         (subst (λ (v : ℕ). accepted new u v (variables_at t p).propout.0 ≡ true) steady.view e)
 
-  turn_untouched : (p : ℕ) → 1 ≤ p → then p ≡ false → (variables_at t p).proposal ≡ 0 → (least_of (variables_at t p).view).0 ≡ p
-      → Untouched t.n (variables_at t p)
-  turn_untouched p low stays none least =
-      ⊎_elim (λ renewed. absurd (renewed.0.proposed none))
-      (λ (steady : Steady s t p).
-      let u = z.untouched p low (still-gone p stays) (sym steady.proposal ∙ none) (least_before p steady least) in
-      record {
-        first = ap (λ (i : GroupIndex). i.0) steady.propout ∙ u.first;
-        all = steady.view ∙ u.all ∙ ap everyone (sym k.size);
-      })
-      (leader p least)
-
   -- ---- Next of who has accepted its own last proposal
   -- the others have accepted nothing more
   others_accepted : (u w i : ℕ) → (u ≡ a → ⊥) → accepted new u w i ≡ true → accepted acc u w i ≡ true
-  others_accepted u w i h e = go k.turn
-    where
-      go : Turn s t acc new a → accepted acc u w i ≡ true
-      go (new_view_lem up renewed bringing same) = rw same at e
-      go (new_index renewed view trust same) = rw same at e
-      go (new_acceptance j steady member free next proposed trust one) =
-          ⊎_elim (λ before. before) (λ (this : Same _ u w i). absurd (h this.process)) (last_or_before acc _ u w i (rw one at e))
-      go (nothing_new steady next trust same) = rw same at e
+  others_accepted u w i h e = grind (arith, last_or_before)
 
   -- a process that nothing new is of has not renewed its proposal
   not_renewed : (p : ℕ) → Steady s t p → Renewed s t p → ⊥
-  not_renewed p steady renewed = omega (arith, renewed.up, ap (λ (i : GroupIndex). i.0) steady.propout)
+  not_renewed p steady renewed = grind arith
 
   next_own : Steady s t a → gone a ≡ false → (least_of (variables_at s a).view).0 ≡ a
       → accepted new a (variables_at s a).view (variables_at s a).propout.0 ≡ true
       → Turn s t acc new a
       → (variables_at t a).next.0 ≡ (variables_at s a).propout.0 + 1
-  next_own steady stays least e (new_view_lem up renewed bringing same) =
-      absurd (not_renewed a steady (renewed (subst (λ (v : ℕ). (least_of v).0 ≡ a) (sym steady.view) least)))
+  next_own steady stays least e (new_view_lem up renewed bringing same) = grind arith
   next_own steady stays least e (new_index renewed view trust same) = absurd (not_renewed a steady renewed)
-  next_own steady stays least e (new_acceptance j unchanged member free next proposed trust one) =
-      ⊎_elim
-      (λ before.
-      absurd
-      (omega (arith, z.next a stays least before, free, subst (λ (i : ℕ). j ≤ (variables_at s i).propout.0) least proposed)))
-      (λ (this : Same _ a (variables_at s a).view (variables_at s a).propout.0). omega (arith, next, this.index))
-      (last_or_before acc _ a (variables_at s a).view (variables_at s a).propout.0 (rw one at e))
-  next_own steady stays least e (nothing_new unchanged next trust same) =
-      ap (λ (i : GroupIndex). i.0) next ∙ z.next a stays least (rw same at e)
+  next_own steady stays least e (new_acceptance j unchanged member free next proposed trust one) = grind (arith, last_or_before)
+  next_own steady stays least e (nothing_new unchanged next trust same) = grind arith
 
   turn_next : (p : ℕ) → then p ≡ false → (least_of (variables_at t p).view).0 ≡ p
       → accepted new p (variables_at t p).view (variables_at t p).propout.0 ≡ true
@@ -310,4 +243,4 @@ module _ {gone then : ℕ → Bool} (still-gone : (k : ℕ) → then k ≡ false
       go (nothing_new own next trust same) = unchanged p u f (same_acc same) (same_views own.view) (trust u p) (λ w j e. rw same at e)
 
   pub turn_standing : Standing then t new
-  turn_standing = record { reaches = turn_reaches; untouched = turn_untouched; loyal = turn_loyal; next = turn_next }
+  turn_standing = grind (arith, turn_reaches, turn_loyal, turn_next)

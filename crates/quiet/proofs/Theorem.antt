@@ -6,9 +6,10 @@ use mathlib.Core.List.{List, ◌++◌}
 use native.Mathlib.Omega.{arith}
 use Rattle.view.specs.Logic.{is_one_of}
 use Rattle.view.specs.View.{has, everyone}
+use Rattle.view.specs.Logic.{pick}
 use Rattle.view.proofs.Laws.{by_pick}
 use Rattle.view.proofs.Sets.{has_number, has_inside}
-use Rattle.system.specs.declared.Outcome.{Outcome}
+use Rattle.system.specs.Outcome.{Outcome}
 use Rattle.system.specs.Fresh.{fresh_system, fresh_of}
 use Rattle.step.specs.Step.{Event, ran}
 use Rattle.step.specs.Rest.{at_rest}
@@ -56,8 +57,5 @@ nobody_final es v common =
 
 -- ---- of any number n
 pub quiet_is_agreed : (n : ℕ) (es : List Event) → Quiet n es
-unfolding fresh_of
-quiet_is_agreed n es v =
-    by_pick (λ (o : Outcome). at_rest (ran o.system es) ≡ true → is_common (ran o.system es) v ≡ true → Final (ran o.system es) v) (is_one_of 8 n) _ _
-    (λ e. run_final n e es v)
-    (λ e rest. nobody_final es v)
+unfolding fresh_of pick
+quiet_is_agreed n es v = grind (arith, run_final, nobody_final)

@@ -35,12 +35,7 @@ pub record Steady (s t : System) (a : ℕ) : Type 0 where
 
 -- of a process that is as it was
 pub same_steady : {s t : System} {k : ℕ} → process_at t k ≡ process_at s k → Steady s t k
-same_steady e =
-    record {
-      view = ap (λ (x : Process). x.variables.view) e;
-      propout = ap (λ (x : Process). x.variables.propout) e;
-      proposal = ap (λ (x : Process). x.variables.proposal) e;
-    }
+same_steady e = grind arith
 
 -- and of the one that acts, where its change leaves the three
 pub actor_steady : {s t : System} {left : ℕ → ℕ → List Message} {p : ℕ} {c : Change} {stops : Bool} {to : ℕ} {m : Message} → Effect s t left p c stops to m
@@ -49,12 +44,7 @@ pub actor_steady : {s t : System} {left : ℕ → ℕ → List Message} {p : ℕ
     → c.variables.proposal ≡ (variables_at s p).proposal
     → Steady s t p
 unfolding afterwards
-actor_steady {s} {p = p} f view propout proposal =
-    record {
-      view = at_actor f (λ y. y.view ≡ (variables_at s p).view) view;
-      propout = at_actor f (λ y. y.propout ≡ (variables_at s p).propout) propout;
-      proposal = at_actor f (λ y. y.proposal ≡ (variables_at s p).proposal) proposal;
-    }
+actor_steady {s} {p = p} f view propout proposal = grind arith
 
 -- a report of view v by process a: whom it brings back a may trust again (S-5), and what becomes of the marks
 pub record Bringing (s t : System) (a v : ℕ) : Type 0 where
@@ -101,48 +91,14 @@ module _ {s t : System} {acc : List Acceptance} (r : Reached s acc) (o : Proposa
       → SameTrust s t
       → Taking s t acc (acc ++ []) p
   unfolding afterwards
-  idle {p = p} f view propout proposal next trust =
-      taking f
-      (nothing_new
-      (actor_steady f view propout proposal)
-      (at_actor f (λ y. y.next ≡ (variables_at s p).next) next)
-      trust
-      (append-nil acc))
+  idle {p = p} f view propout proposal next trust = grind (arith, append-nil)
 
   pub transition_taking : (a : Action) → Transition s t a → Taking s t acc (acc ++ acceptances s a) (scope_of a).actor.0
   unfolding afterwards scope_of
-  transition_taking (Report p v) (proposes k) =
-      let x = variables_at s p.0 in
-      taking k.effect
-      (new_view_lem
-      (at_actor k.effect (λ y. x.propout.0 ≤ y.propout.0) (omega arith))
-      (λ least.
-      record {
-        up = at_actor k.effect (λ y. x.propout.0 < y.propout.0) (omega arith);
-        proposed = at_actor k.effect (λ y. y.proposal ≡ 0 → ⊥) (not_empty v p.0 k.own);
-      })
-      (at_actor k.effect (λ y. Bringing s t p.0 y.view) (record { trusted = k.trusted; doubts = k.doubts }))
-      (append-nil acc))
-  transition_taking (Report p v) (follows k) =
-      let x = variables_at s p.0 in
-      taking k.effect
-      (new_view_lem
-      (at_actor k.effect (λ y. x.propout.0 ≤ y.propout.0) (omega arith))
-      (λ least. absurd (k.other (rw (at_actor k.effect (λ y. y.view ≡ v) refl) at least)))
-      (at_actor k.effect (λ y. Bringing s t p.0 y.view) (record { trusted = k.trusted; doubts = k.doubts }))
-      (append-nil acc))
+  transition_taking (Report p v) (proposes k) = grind (arith, not_empty, append-nil)
+  transition_taking (Report p v) (follows k) = grind (arith, append-nil)
   transition_taking (Receive q p) (records k) = idle k.effect refl refl refl refl k.trust
-  transition_taking (Receive q p) (reproposes k) =
-      let x = variables_at s p.0 in
-      taking k.effect
-      (new_index
-      (record {
-        up = at_actor k.effect (λ y. x.propout.0 < y.propout.0) (omega (arith, k.present, k.rises));
-        proposed = at_actor k.effect (λ y. y.proposal ≡ 0 → ⊥) (not_empty _ p.0 k.proposed);
-      })
-      (at_actor k.effect (λ y. y.view ≡ x.view) refl)
-      k.trust
-      (append-nil acc))
+  transition_taking (Receive q p) (reproposes k) = grind (arith, not_empty, append-nil)
   transition_taking (Receive q p) (ignores k) = idle k.effect refl refl refl refl k.trust
   transition_taking (Receive q p) (marks k) = idle k.effect refl refl refl refl k.trust
   transition_taking (Receive q p) (commits k) = idle k.effect refl refl refl refl k.trust

@@ -28,21 +28,17 @@ first_named (suc n) k v u low high named =
 -- a view that names a process names its least
 pub least_named : (v u : ℕ) → has v u ≡ true → has v (least_of v).0 ≡ true
 unfolding least_of
-least_named v u named =
-    let b = has_number v u named in
-    first_named 8 1 v u b.0 (omega arith) named
+least_named v u named = grind (arith, has_number, first_named)
 
 -- ---- a part of a view, by its processes
 abbrev bit : ℕ → ℕ → ℕ
 bit v k = v / 2 ^ k % 2
 
 bit_next : (v k : ℕ) → bit (v / 2) k ≡ bit v (suc k)
-bit_next v k = ap (λ (w : ℕ). w % 2) (div-div-eq-div-mul v 2 (2 ^ k) ∙ ap (λ (m : ℕ). v / m) (sym (pow-succ' 2 k)))
+bit_next v k = grind (arith, div-div-eq-div-mul)
 
 part_by_bits : (k a b : ℕ) → a < 2 ^ k → ((j : ℕ) → j < k → bit a j ≡ 1 → bit b j ≡ 1) → bit_and a b ≡ a
-part_by_bits zero a b small h =
-    let none : a ≡ 0 = omega arith in
-    rw none (and_zero_l b)
+part_by_bits zero a b small h = grind arith
 part_by_bits (suc k) a b small h =
     let half : a / 2 < 2 ^ k = omega (arith, pow-suc 2 k) in
     let above = part_by_bits k (a / 2) (b / 2) half (λ j l e. bit_next b j ∙ h (suc j) (omega arith) (sym (bit_next a j) ∙ e)) in
@@ -54,15 +50,11 @@ part_by_bits (suc k) a b small h =
 
 set_bit : (v j : ℕ) → j < 8 → bit v j ≡ 1 → has v (suc j) ≡ true
 unfolding has
-set_bit v j l e =
-    let back : suc j - 1 ≡ j = omega arith in
-    and_intro (is_one_of_lem 8 (suc j) (omega arith) (omega arith)) (rw back (eq-eqb (bit v j) 1 e))
+set_bit v j l e = grind arith
 
 bit_set : (v j : ℕ) → has v (suc j) ≡ true → bit v j ≡ 1
 unfolding has
-bit_set v j e =
-    let back : suc j - 1 ≡ j = omega arith in
-    rw back at (eqb-true (bit v (suc j - 1)) 1 (and_right (is_one_of 8 (suc j)) (eqb (bit v (suc j - 1)) 1) e))
+bit_set v j e = grind arith
 
 -- of a view that is one byte
 pub part_by_processes : (a b : ℕ) → a < 256 → ((u : ℕ) → has a u ≡ true → has b u ≡ true) → subset a b ≡ true

@@ -12,8 +12,7 @@ use Rattle.step.specs.Step.{Event, does, stepped, ran}
 use Rattle.step.specs.Rest.{idle_from, at_rest}
 use Rattle.settle.specs.declared.Ending.{Ending}
 use Rattle.settle.specs.declared.Ending.TheVariants.{Rest}
-use Rattle.settle.specs.declared.Settled.{Settled}
-use Rattle.settle.specs.Settle.{settled}
+use Rattle.settle.specs.Settle.{Settled, settled}
 use Rattle.agreement.specs.Demand.{start}
 use Rattle.quiet.specs.Quiet.{last_non_empty, is_common, Final}
 

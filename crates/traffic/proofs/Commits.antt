@@ -1,34 +1,31 @@
 -- An event that counts a committed proposal is the transition that sends Commits.
 use Prim.Native.Nat.{ℕ}
 use mathlib.Core.Path.{◌≡◌, refl, sym, ◌∙◌, subst}
-use mathlib.Core.Bool.{Bool, true, false, ◌&&◌, not}
+use mathlib.Core.Bool.{Bool, true, false}
 use mathlib.Core.List.{List}
 use native.Mathlib.Omega.{arith}
-use borrow.Author.Tests.{eq-eqb, ne_eqb, eqb-false, not-true}
-use lib.Dec.{leb, ltb, eqb}
+use borrow.Author.Tests.{ne_eqb}
+use lib.Dec.{eqb}
+use Rattle.std.specs.Prelude.{None, Some}
 use Rattle.view.specs.declared.ProcessId.{ProcessId}
 use Rattle.view.specs.declared.GroupIndex.{GroupIndex}
 use Rattle.view.specs.Logic.{pick}
-use Rattle.view.specs.View.{has, within, subset, with, minus, least_of, count_of}
-use Rattle.view.proofs.Laws.{by_pick, and_left, and_right, true_is_not_false}
+use Rattle.view.specs.View.{subset, with}
+use Rattle.view.proofs.Laws.{true_is_not_false}
 use Rattle.tallies.specs.Tally.{no_tally}
 use Rattle.channel.specs.declared.Message.{Message}
 use Rattle.channel.specs.declared.Message.TheVariants.{Retry}
-use Rattle.channel.specs.Channel.{front_of}
-use Rattle.system.specs.declared.Pending.{Pending}
-use Rattle.system.specs.declared.Pending.TheVariants.{Nothing, Proposal}
 use Rattle.system.specs.declared.Variables.{Variables}
 use Rattle.system.specs.declared.System.{System}
-use Rattle.system.specs.Process.{pending_at}
-use Rattle.system.specs.System.{process_at, variables_at, trust_at}
-use Rattle.plan.specs.declared.Plan.{Plan}
+use Rattle.system.specs.Process.{Pending}
+use Rattle.system.specs.System.{variables_at}
 use Rattle.plan.specs.declared.Cut.{Cut}
 use Rattle.plan.specs.declared.Step.{Step}
 use Rattle.plan.specs.declared.Cut.TheVariants.{Whole, After}
 use Rattle.plan.specs.declared.Action.{Action}
 use Rattle.plan.specs.declared.Action.TheVariants.{Report, Receive, Respond, Crash}
 use Rattle.plan.specs.Fields.{with_acks}
-use Rattle.plan.specs.Plan.{new_view_plan, report_plan, committing_plan, message_plan, receive_plan, respond_plan}
+use Rattle.plan.specs.Plan.{new_view_plan, report_plan, committing_plan, message_plan, receive_plan, respond_plan, Planned}
 use Rattle.step.specs.Scope.{scope_of}
 use Rattle.plan.specs.Cut.{cut_short, cut_by}
 use Rattle.step.specs.Step.{plan_of, stepped, Event, does, happened}
@@ -47,58 +44,39 @@ pub record Committing (s t : System) (p : ℕ) : Type 0 where
   pub case : Commits s t from by
 
 -- ---- plans that send no Commit
-abbrev Plain : Plan → Type 0
+abbrev Plain : Planned → Type 0
 Plain a = is_commit a.message ≡ false
 
 report_plain : (n p v : ℕ) (x : Variables) (trust : ℕ) → Plain (report_plan n p v x trust)
-unfolding report_plan new_view_plan is_commit
-report_plain n p v x trust =
-    by_pick Plain (within n v && has v p) _ _
-    (λ a.
-    by_pick Plain (subset (minus v x.view) trust) _ _
-    (λ b. by_pick Plain (eqb (least_of v).0 p) _ _ (λ c. by_pick Plain (ltb x.propout.0 32) _ _ (λ d. refl) (λ d. refl)) (λ c. refl))
-    (λ b. refl))
-    (λ a. refl)
+unfolding report_plan new_view_plan is_commit pick
+report_plain n p v x trust = grind arith
 
 respond_plain : (q : ProcessId) (x : Variables) (y : Pending) → Plain (respond_plan q x y)
-unfolding respond_plan is_commit
-respond_plain q x Nothing = refl
-respond_plain q x (Proposal v i) =
-    by_pick Plain (eqb v x.view) _ _
-    (λ a. by_pick Plain (ltb i.0 x.next.0) _ _ (λ b. refl) (λ b. by_pick Plain (leb i.0 32) _ _ (λ c. refl) (λ c. refl)))
-    (λ a. refl)
+unfolding respond_plan is_commit pick
+respond_plain q x None = refl
+respond_plain q x (Some r) = grind arith
 
 -- an Acc after which not all are marked
 part_plain : (x : Variables) (acks : ℕ) → ((x.proposal ≡ 0 → ⊥) → subset x.proposal acks ≡ false) → Plain (committing_plan (with_acks x acks))
-unfolding committing_plan is_commit
-part_plain x acks partial =
-    let some = not (eqb x.proposal 0) in
-    by_pick Plain (some && subset x.proposal acks) _ _
-    (λ both.
-    true_is_not_false
-    (sym (and_right some (subset x.proposal acks) both) ∙ partial (eqb-false x.proposal 0 (not-true _ (and_left some (subset x.proposal acks) both)))))
-    (λ part. refl)
+unfolding committing_plan is_commit pick
+part_plain x acks partial = grind arith
 
 mark_plain : (q : ProcessId) (x : Variables) (i acks : ℕ) → Marking x q.0 i acks → ((x.proposal ≡ 0 → ⊥) → subset x.proposal acks ≡ false)
     → Plain (committing_plan (pick (eqb x.propout.0 i) (with_acks x (with x.acks q.0)) x))
 unfolding pick
-mark_plain q x i acks (present e a) partial = rw (eq-eqb x.propout.0 i e) (subst (λ (k : ℕ). Plain (committing_plan (with_acks x k))) a (part_plain x acks partial))
+mark_plain q x i acks (present e a) partial = grind (arith, part_plain)
 mark_plain q x i acks (stale e a) partial = rw (ne_eqb x.propout.0 i e) (subst (λ (k : ℕ). Plain (committing_plan (with_acks x k))) a (part_plain x acks partial))
 
 retry_plain : (q : ProcessId) (p : ℕ) (x : Variables) (old new : GroupIndex) → Plain (message_plan q p x (Retry old new))
-unfolding message_plan is_commit
-retry_plain q p x old new =
-    by_pick Plain (eqb x.propout.0 old.0 && eqb (least_of x.view).0 p) _ _
-    (λ both. by_pick Plain (leb new.0 32) _ _ (λ below. refl) (λ last. refl))
-    (λ other. refl)
+unfolding message_plan is_commit pick
+retry_plain q p x old new = grind arith
 
 -- the plan of a take, once the oldest message is known
 taking_plain : (s : System) (q p : ProcessId) (m : Message) (left : ℕ → ℕ → List Message) → Taken s q.0 p.0 m left
     → Plain (message_plan q p.0 (variables_at s p.0) m)
     → Plain (plan_of s (Receive q p))
 unfolding plan_of receive_plan
-taking_plain s q p m left taken plain =
-    subst (λ (ms : List Message). Plain (receive_plan q p.0 (variables_at s p.0) (front_of ms))) (sym taken.first) plain
+taking_plain s q p m left taken plain = grind arith
 
 -- ---- each transition
 contrary : {C : Type 0} {a : Bool} → a ≡ false → a ≡ true → C
@@ -107,8 +85,8 @@ contrary off on = true_is_not_false (sym on ∙ off)
 module _ {s t : System} where
   commits_only : (o : Action) → Transition s t o → is_commit (plan_of s o).message ≡ true → Committing s t (scope_of o).actor.0
   unfolding plan_of scope_of message_plan is_commit
-  commits_only (Report p v) (proposes r) e = contrary (report_plain s.n p.0 v (variables_at s p.0) (trust_at s p.0)) e
-  commits_only (Report p v) (follows r) e = contrary (report_plain s.n p.0 v (variables_at s p.0) (trust_at s p.0)) e
+  commits_only (Report p v) (proposes r) e = grind (arith, report_plain)
+  commits_only (Report p v) (follows r) e = grind (arith, report_plain)
   commits_only (Receive q p) (records r) e = contrary (taking_plain s q p _ _ r.taken refl) e
   commits_only (Receive q p) (reproposes r) e =
       contrary (taking_plain s q p _ _ r.taken (retry_plain q p.0 (variables_at s p.0) r.old r.new)) e
@@ -117,22 +95,16 @@ module _ {s t : System} where
       contrary (taking_plain s q p _ _ r.taken (mark_plain q (variables_at s p.0) r.index.0 r.acks r.marking r.partial)) e
   commits_only (Receive q p) (commits r) e = record { from = q; by = p; same = refl; case = r }
   commits_only (Receive q p) (enters r) e = contrary (taking_plain s q p _ _ r.taken refl) e
-  commits_only (Respond p q) (accepts r) e = contrary (respond_plain q (variables_at s p.0) (pending_at (process_at s p.0) q.0)) e
-  commits_only (Respond p q) (declines r) e = contrary (respond_plain q (variables_at s p.0) (pending_at (process_at s p.0) q.0)) e
+  commits_only (Respond p q) (accepts r) e = grind (arith, respond_plain)
+  commits_only (Respond p q) (declines r) e = grind (arith, respond_plain)
   commits_only (Crash p) (crashes r) e = contrary refl e
 
 -- ---- an event
 -- what sends Commits once it is cut would send them
-uncut : (cut : Cut) (a : Plan) → is_commit (cut_by cut a).message ≡ true → is_commit a.message ≡ true
-unfolding cut_by cut_short is_commit
+uncut : (cut : Cut) (a : Planned) → is_commit (cut_by cut a).message ≡ true → is_commit a.message ≡ true
+unfolding cut_by cut_short is_commit pick
 uncut Whole a = λ e. e
-uncut (After k) a =
-    by_pick (λ (b : Plan). is_commit b.message ≡ true → is_commit a.message ≡ true) (eqb a.refusal 0) _ _
-    (λ plain.
-    by_pick (λ (b : Plan). is_commit b.message ≡ true → is_commit a.message ≡ true) (ltb k (count_of a.addressees)) _ _
-    (λ early e. e)
-    (λ late e. true_is_not_false (sym e)))
-    (λ refusal e. e)
+uncut (After k) a = grind arith
 
 is_one : (t : Bool) → one t ≡ 1 → t ≡ true
 unfolding one pick
@@ -143,10 +115,7 @@ is_one false e = absurd (omega arith)
 pub done_committing : (s : System) → Valid s → (o : Step) → (stepped s o).refusal ≡ 0 → (done_tally s o).committed ≡ 1
     → Committing s (stepped s o).system (scope_of o.action).actor.0
 unfolding plan_tally
-done_committing s valid o done e =
-    let a = cut_by o.cut (plan_of s o.action) in
-    commits_only o.action (transition s o valid done)
-    (uncut o.cut (plan_of s o.action) (and_left (is_commit a.message) (not (eqb a.addressees 0)) (is_one _ e)))
+done_committing s valid o done e = grind (arith, commits_only, transition, uncut, is_one)
 
 pub committing : (s : System) → Valid s → (e : Event) → (event_tally s e).committed ≡ 1 → Committing s (happened s e).system (acting_in e)
 unfolding happened acting_in no_tally

@@ -5,11 +5,11 @@ use mathlib.Core.Bool.{true}
 use mathlib.Core.List.{List, [], ◌∷◌, ◌++◌}
 use native.Mathlib.Omega.{arith}
 use Rattle.view.specs.Logic.{is_one_of}
-use Rattle.view.proofs.Laws.{by_pick}
+use Rattle.view.specs.Logic.{pick}
 use Rattle.tallies.specs.declared.Tally.{Tally}
 use Rattle.tallies.specs.Tally.{no_tally, plus}
 use Rattle.system.specs.declared.System.{System}
-use Rattle.system.specs.declared.Outcome.{Outcome}
+use Rattle.system.specs.Outcome.{Outcome}
 use Rattle.system.specs.Fresh.{fresh_variables, fresh_process, fresh_system, fresh_of}
 use Rattle.step.specs.Step.{Event, does, happened, ran}
 use Rattle.step.specs.Counts.{event_tally, events_tally}
@@ -83,16 +83,5 @@ nobody_commits es e q c =
     omega (arith, none, counted)
 
 pub once_committed : (n : ℕ) (es : List Event) (first : Event) (more : List Event) (second : Event) (q : ℕ) → OnceCommitted n es first more second q
-unfolding fresh_of
-once_committed n es first more second q a b = omega (arith, later)
-  where
-    later : proposal_of (ran (fresh_of n).system es) q < proposal_of (ran (fresh_of n).system (es ++ first ∷ more)) q
-    later =
-        by_pick
-        (λ (x : Outcome). CommitsIn (ran x.system es) first q → CommitsIn (ran x.system (es ++ first ∷ more)) second q
-        → proposal_of (ran x.system es) q < proposal_of (ran x.system (es ++ first ∷ more)) q)
-        (is_one_of 8 n) _ _
-        (λ e. fresh_once n e es first more second q)
-        (λ e c. absurd (nobody_commits es first q c))
-        a
-        b
+unfolding fresh_of pick
+once_committed n es first more second q a b = grind (arith, fresh_once, nobody_commits)

@@ -4,12 +4,12 @@ use mathlib.Core.Path.{◌≡◌, refl, sym, subst}
 use mathlib.Core.Bool.{Bool}
 use mathlib.Core.List.{List}
 use native.Mathlib.Omega.{arith}
-use borrow.Author.Tests.{lt-ltb, ltb-true, ltb-false}
+use borrow.Author.Tests.{lt-ltb}
 use lib.Dec.{ltb}
 use Rattle.view.specs.declared.ProcessId.{ProcessId}
 use Rattle.view.specs.Logic.{pick}
 use Rattle.view.specs.View.{has}
-use Rattle.view.proofs.Laws.{by_pick, by_number}
+use Rattle.view.proofs.Laws.{by_number}
 use Rattle.view.proofs.Sets.{subset-has}
 use Rattle.channel.specs.declared.Message.{Message}
 use Rattle.channel.specs.declared.Message.TheVariants.{Propose, Retry, Acc, Commit}
@@ -32,8 +32,8 @@ unfolding is_below one pick
 is_below_lem a b h = rw (lt-ltb a b h)
 
 pub by_below : (P : ℕ → Type 0) (a b : ℕ) → (a < b → P 1) → (b ≤ a → P 0) → P (is_below a b)
-unfolding is_below one
-by_below P a b yes-case no-case = by_pick P (ltb a b) 1 0 (λ e. yes-case (ltb-true a b e)) (λ e. no-case (ltb-false a b e))
+unfolding is_below one pick
+by_below P a b yes-case no-case = grind arith
 
 pub below_small : (a b : ℕ) → is_below a b ≤ 1
 unfolding is_below
@@ -79,16 +79,7 @@ pub spent_as : {t : System} {q k : ℕ} (y : Process) → process_at t q ≡ y �
     → k ≤ y.variables.propout.0
     → Spent t q k
 unfolding mark
-spent_as {t} {q} {k} y e accs once past =
-    record {
-      accs = λ i. subst (λ (x : Process). own_accs t q i ≤ is_below i x.variables.next.0) (sym e) (accs i);
-      once = subst
-          (λ (x : Process). is k x.variables.propout.0 + own_accs t q x.variables.propout.0 + one (has x.variables.acks q)
-          ≤ is_below x.variables.propout.0 x.variables.next.0)
-          (sym e)
-          once;
-      past = subst (λ (x : Process). k ≤ x.variables.propout.0) (sym e) past;
-    }
+spent_as {t} {q} {k} y e accs once past = grind arith
 
 module _ {s t : System} {left : ℕ → ℕ → List Message} {p : ℕ} {c : Change} {stops : Bool} {to : ℕ} {m : Message} (f : Effect s t left p c stops to m) where
   -- the process that acted
@@ -98,7 +89,7 @@ module _ {s t : System} {left : ℕ → ℕ → List Message} {p : ℕ} {c : Cha
       → k ≤ c.variables.propout.0
       → Spent t p k
   unfolding afterwards
-  own_spent k accs once past = spent_as (afterwards (process_at s p) c stops) f.actor accs once past
+  own_spent k accs once past = grind (arith, spent_as)
 
   module _ (fewer : Fewer s left) where
     -- every other process
@@ -183,12 +174,7 @@ module _ {s t : System} {q p : ProcessId} where
 
 -- an earlier proposal is spent too
 earlier : {t : System} {q k j : ℕ} → k < j → Spent t q j → Spent t q k
-earlier {t} {q} {k} {j} h z =
-    record {
-      accs = z.accs;
-      once = omega (arith, is_other k (variables_at t q).propout.0 (λ e. absurd (omega (arith, z.past))), z.once);
-      past = omega (arith, z.past);
-    }
+earlier {t} {q} {k} {j} h z = grind (arith, is_other)
 
 -- ---- an Acc is sent
 accepts_spent : {s t : System} {p q : ProcessId} (r : Accepts s t p q) (k : ℕ) → Spent s p.0 k → Spent t p.0 k

@@ -1,32 +1,30 @@
 -- Of every plan, whole or cut: its addressees are processes of the system, it leaves it to the stop whether its process has stopped, and one
 -- that takes a message finds one.
 use Prim.Native.Nat.{ℕ, ◌≤◌, ◌<◌}
-use mathlib.Core.Path.{◌≡◌, refl, sym, subst}
+use mathlib.Core.Path.{◌≡◌, refl}
 use mathlib.Core.Bool.{true, ◌&&◌, not}
 use mathlib.Core.List.{List, [], ◌∷◌}
 use native.Mathlib.Omega.{arith}
-use borrow.Author.Tests.{eqb-true}
 use lib.Dec.{leb, ltb, eqb}
+use Rattle.std.specs.Prelude.{None, Some}
 use Rattle.view.specs.declared.ProcessId.{ProcessId}
 use Rattle.view.specs.View.{has, within, subset, with, minus, least_of, count_of, first_members}
-use Rattle.view.proofs.Laws.{by_pick, by_number, and_left}
+use Rattle.view.specs.Logic.{pick}
+use Rattle.view.proofs.Laws.{by_pick, and_left}
 use Rattle.view.proofs.Sets.{has_inside, within_if, within_none, within-with, first_has}
 use Rattle.channel.specs.declared.Message.{Message}
 use Rattle.channel.specs.declared.Message.TheVariants.{Propose, Retry, Acc, Commit}
 use Rattle.channel.specs.Channel.{front_of, waiting}
-use Rattle.system.specs.declared.Pending.{Pending}
-use Rattle.system.specs.declared.Pending.TheVariants.{Nothing, Proposal}
 use Rattle.system.specs.declared.Variables.{Variables}
 use Rattle.system.specs.declared.System.{System}
-use Rattle.system.specs.Process.{pending_at}
+use Rattle.system.specs.Process.{pending_at, Pending}
 use Rattle.system.specs.System.{process_at, variables_at, channel_at, trust_at}
-use Rattle.plan.specs.declared.Plan.{Plan}
 use Rattle.plan.specs.declared.Cut.{Cut}
 use Rattle.plan.specs.declared.Cut.TheVariants.{Whole, After}
 use Rattle.plan.specs.declared.Action.{Action}
 use Rattle.plan.specs.declared.Action.TheVariants.{Report, Receive, Respond, Crash}
 use Rattle.plan.specs.Fields.{with_acks}
-use Rattle.plan.specs.Plan.{new_view_plan, report_plan, committing_plan, message_plan, receive_plan, respond_plan}
+use Rattle.plan.specs.Plan.{new_view_plan, report_plan, committing_plan, message_plan, receive_plan, respond_plan, Planned}
 use Rattle.step.specs.Scope.{scope_of}
 use Rattle.plan.specs.Cut.{cut_short, cut_by}
 use Rattle.step.specs.Step.{plan_of}
@@ -34,13 +32,13 @@ use Rattle.step.proofs.Soundness.{Sound}
 use Rattle.step.proofs.Cases.{Known}
 
 -- a plan of a process with variables x, among n processes
-pub record Fits (n : ℕ) (x : Variables) (a : Plan) : Type 0 where
+pub record Fits (n : ℕ) (x : Variables) (a : Planned) : Type 0 where
   pub inside : within n a.addressees ≡ true
   pub calm : a.change.variables.crashed ≡ x.crashed
 
 -- it sends nothing
-sends_none : {n : ℕ} {x : Variables} {a : Plan} → a.addressees ≡ 0 → a.change.variables.crashed ≡ x.crashed → Fits n x a
-sends_none {n} {x} {a} none calm = record { inside = subst (λ (v : ℕ). within n v ≡ true) (sym none) (within_none n); calm = calm }
+sends_none : {n : ℕ} {x : Variables} {a : Planned} → a.addressees ≡ 0 → a.change.variables.crashed ≡ x.crashed → Fits n x a
+sends_none {n} {x} {a} none calm = grind (arith, within_none)
 
 report_fits_lem : (n p v : ℕ) (x : Variables) (trust : ℕ) → Fits n x (report_plan n p v x trust)
 unfolding report_plan new_view_plan
@@ -56,16 +54,9 @@ report_fits_lem n p v x trust =
     (λ odd. sends_none refl refl)
 
 respond_fits : (n : ℕ) (q : ProcessId) (x : Variables) (y : Pending) → 1 ≤ q.0 → q.0 ≤ n → q.0 ≤ 8 → Fits n x (respond_plan q x y)
-unfolding respond_plan
-respond_fits n q x Nothing low high eight = sends_none refl refl
-respond_fits n q x (Proposal v i) low high eight =
-    let only = within-with n 0 q.0 (within_none n) low high eight in
-    by_pick (Fits n x) (eqb v x.view) _ _
-    (λ same.
-    by_pick (Fits n x) (ltb i.0 x.next.0) _ _
-    (λ late. record { inside = only; calm = refl })
-    (λ free. by_pick (Fits n x) (leb i.0 32) _ _ (λ room. record { inside = only; calm = refl }) (λ beyond. sends_none refl refl)))
-    (λ other. sends_none refl refl)
+unfolding respond_plan pick
+respond_fits n q x None low high eight = sends_none refl refl
+respond_fits n q x (Some r) low high eight = grind (arith, within-with, within_none)
 
 module _ (n : ℕ) (q : ProcessId) (p : ℕ) (x : Variables) (view : within n x.view ≡ true) (proposal : within n x.proposal ≡ true) where
   committing_fits : (acks : ℕ) → Fits n x (committing_plan (with_acks x acks))
@@ -102,7 +93,7 @@ plan_fits s sound (Respond p q) k j = respond_fits s.n q (variables_at s p.0) (p
 plan_fits s sound (Crash p) k j = sends_none refl refl
 
 -- ---- cut or not
-cut_fits : (n : ℕ) (x : Variables) (cut : Cut) (a : Plan) → Fits n x a → Fits n x (cut_by cut a)
+cut_fits : (n : ℕ) (x : Variables) (cut : Cut) (a : Planned) → Fits n x a → Fits n x (cut_by cut a)
 unfolding cut_by cut_short
 cut_fits n x Whole a f = f
 cut_fits n x (After k) a f =
@@ -118,18 +109,16 @@ pub step_fits : (s : System) → Sound s → (o : Action) (cut : Cut) → Known 
 step_fits s sound o cut k j = cut_fits s.n _ cut (plan_of s o) (plan_fits s sound o k j)
 
 -- what is not refused once it is cut would not be refused
-pub cut_plain : (cut : Cut) (a : Plan) → (cut_by cut a).refusal ≡ 0 → a.refusal ≡ 0
-unfolding cut_by cut_short
+pub cut_plain : (cut : Cut) (a : Planned) → (cut_by cut a).refusal ≡ 0 → a.refusal ≡ 0
+unfolding cut_by cut_short pick
 cut_plain Whole a = λ e. e
-cut_plain (After k) a =
-    by_pick (λ (b : Plan). b.refusal ≡ 0 → a.refusal ≡ 0) (eqb a.refusal 0) _ _ (λ plain e. eqb-true a.refusal 0 plain) (λ refusal e. e)
+cut_plain (After k) a = grind arith
 
 -- ---- a message is taken where one waits
 pub message_found : (s : System) (o : Action) → (plan_of s o).refusal ≡ 0 → (scope_of o).takes ≡ true
     → 0 < (channel_at s (scope_of o).partner.0 (scope_of o).actor.0).len
 unfolding plan_of scope_of receive_plan waiting
 message_found s (Report p v) plain takes = absurd (let z : ◌≡◌ {A = ℕ} 0 1 = cc in omega arith)
-message_found s (Receive q p) plain takes =
-    by_number (channel_at s q.0 p.0).len 0 (λ e. absurd (omega (arith, rw e at plain))) (λ some. omega arith)
+message_found s (Receive q p) plain takes = grind arith
 message_found s (Respond p q) plain takes = absurd (let z : ◌≡◌ {A = ℕ} 0 1 = cc in omega arith)
 message_found s (Crash p) plain takes = absurd (let z : ◌≡◌ {A = ℕ} 0 1 = cc in omega arith)

@@ -8,14 +8,14 @@ use native.Mathlib.Omega.{arith}
 use borrow.Author.Tests.{eq-eqb, ne_eqb}
 use lib.Dec.{eqb}
 use Rattle.view.specs.Logic.{pick, sum_up_to, is_one_of}
-use Rattle.view.proofs.Laws.{by_pick, by_number, one_of}
+use Rattle.view.proofs.Laws.{by_number, one_of}
 use Rattle.view.proofs.Sums.{sum-changed, sum_at_most}
 use Rattle.tallies.specs.declared.Tally.{Tally}
 use Rattle.tallies.specs.Tally.{no_tally, plus}
 use Rattle.system.specs.declared.Process.{Process}
 use Rattle.system.specs.declared.Variables.{Variables}
 use Rattle.system.specs.declared.System.{System}
-use Rattle.system.specs.declared.Outcome.{Outcome}
+use Rattle.system.specs.Outcome.{Outcome}
 use Rattle.system.specs.System.{process_at, with_channel}
 use Rattle.system.specs.Fresh.{fresh_variables, fresh_system}
 use Rattle.plan.specs.declared.Scope.{Scope}
@@ -61,8 +61,8 @@ below_through a b c =
 
 -- ---- a proposal is a rise of PropOut
 same_process : (s : System) (c : Scope) (k : ℕ) → process_at (taken_off s c) k ≡ process_at s k
-unfolding taken_off with_channel process_at
-same_process s c k = by_pick (λ (t : System). process_at t k ≡ process_at s k) c.takes _ _ (λ e. refl) (λ e. refl)
+unfolding taken_off with_channel process_at pick
+same_process s c k = grind arith
 
 abbrev actor_of : Step → ℕ
 actor_of o = (scope_of o.action).actor.0

@@ -1,24 +1,23 @@
 -- One step: what is sent waits, or is taken, or is lost.
 use Prim.Native.Nat.{ℕ, ◌+◌, ◌≤◌, ◌<◌}
-use mathlib.Core.Path.{◌≡◌, refl, sym, ◌∙◌, ap, subst}
-use mathlib.Core.Logic.{⊎_elim}
+use mathlib.Core.Path.{◌≡◌, refl, sym, ◌∙◌, subst}
 use mathlib.Core.Bool.{Bool, true, false, ◌&&◌}
 use native.Mathlib.Omega.{arith}
-use borrow.Author.Tests.{eqb-true, eqb-false, eq-eqb, ne_eqb}
+use borrow.Author.Tests.{eqb-true, eqb-false}
 use lib.Dec.{eqb}
 use Rattle.view.specs.Logic.{pick, is_one_of}
 use Rattle.view.specs.View.{has, within, count_of}
-use Rattle.view.proofs.Laws.{by_pick, by_test, by_number, and_left, and_right}
+use Rattle.view.proofs.Laws.{by_pick, and_left, and_right}
 use Rattle.tallies.specs.declared.Tally.{Tally}
 use Rattle.tallies.specs.Tally.{no_tally}
 use Rattle.system.specs.declared.System.{System}
-use Rattle.system.specs.declared.Outcome.{Outcome}
-use Rattle.system.specs.System.{process_at, variables_at, channel_at, with_trust, takes_if_named, room_for, refused}
-use Rattle.plan.specs.declared.Plan.{Plan}
+use Rattle.system.specs.Outcome.{Outcome}
+use Rattle.system.specs.System.{process_at, variables_at, channel_at, with_trust, takes_if_named, room_for}
 use Rattle.plan.specs.declared.Scope.{Scope}
 use Rattle.plan.specs.declared.Step.{Step}
 use Rattle.step.specs.Scope.{scope_of}
 use Rattle.plan.specs.Cut.{cut_by}
+use Rattle.plan.specs.Plan.{Planned}
 use Rattle.step.specs.Step.{plan_of, taken_off, placed, doubted, changed_at, crashed_at, crashed_if, effected, carried_out, permitted, attempted, stepped, Event, does, happened}
 use Rattle.step.specs.Counts.{waiting_in, waiting_towards, one, vanishes_at, vanished, lost_at, plan_tally, tally_if, step_tally, event_tally}
 use Rattle.step.proofs.Frames.{Numbered}
@@ -31,7 +30,7 @@ use Rattle.traffic.proofs.Plans.{step_fits, cut_plain, message_found}
 use Rattle.traffic.proofs.Waiting.{towards_up_to, waiting_up_to, towards_sized, waiting_sized, one_off, own_told, waits_once_told, waits_once_stopped}
 
 -- ---- the plan of process p is carried out in u
-effected_waits : (n : ℕ) → n ≤ 8 → (s u : System) → s.n ≡ n → Ready s u → (p : ℕ) → Numbered p → p ≤ n → (variables_at s p).crashed ≡ false → (a : Plan)
+effected_waits : (n : ℕ) → n ≤ 8 → (s u : System) → s.n ≡ n → Ready s u → (p : ℕ) → Numbered p → p ≤ n → (variables_at s p).crashed ≡ false → (a : Planned)
     → a.change.variables.crashed ≡ false
     → room_for u p a.addressees ≡ true
     → within n a.addressees ≡ true
@@ -65,12 +64,7 @@ off_waits : (s : System) (valid : Valid s) (c : Scope) → Known s c.actor.0 →
     → (c.takes ≡ true → 0 < (channel_at s c.partner.0 c.actor.0).len)
     → waiting_up_to s.n (taken_off s c) + one c.takes ≡ waiting_up_to s.n s
 unfolding taken_off one pick
-off_waits s valid c to from some =
-    by_test c.takes
-    (λ e.
-    rw e
-    (one_off s.n s valid.shape c.partner.0 c.actor.0 (number s valid _ from) (number s valid _ to) from.high to.high (some e)))
-    (λ e. rw e (omega arith))
+off_waits s valid c to from some = grind (arith, one_off)
 
 -- ---- the step
 -- what waited, and what is sent: it waits, or is taken, or is lost
@@ -78,7 +72,7 @@ abbrev pub Balanced : System → System → Tally → Type 0
 Balanced s t a = waiting_in t + (a.taken + a.lost) ≡ waiting_in s + a.sent
 
 -- the outcome of a step whose plan is a
-abbrev BalancedIfDone : System → Scope → Plan → Outcome → Type 0
+abbrev BalancedIfDone : System → Scope → Planned → Outcome → Type 0
 BalancedIfDone s c a o = o.refusal ≡ 0 → Balanced s o.system (plan_tally (taken_off s c) c a)
 
 attempt_balanced : (s : System) → Valid s → (o : Step) → BalancedIfDone s (scope_of o.action) (cut_by o.cut (plan_of s o.action)) (attempted s o)
@@ -120,21 +114,13 @@ abbrev pub done_tally : System → Step → Tally
 done_tally s o = plan_tally (taken_off s (scope_of o.action)) (scope_of o.action) (cut_by o.cut (plan_of s o.action))
 
 pub attempted-done : (s : System) → Valid s → (o : Step) → (stepped s o).refusal ≡ 0 → (attempted s o).refusal ≡ 0
-attempted-done s valid o e = sym (ap (λ (a : Outcome). a.refusal) (sound_stepped s o valid.sound)) ∙ e
+attempted-done s valid o e = grind (arith, sound_stepped)
 
 -- so: what is so of a step done and its count, and of a refusal that counts nothing, is so of the event
 pub by_event : (P : Tally → System → Type 0) (s : System) → Valid s → (o : Step) → ((stepped s o).refusal ≡ 0 → P (done_tally s o) (stepped s o).system) → P no_tally s
     → P (event_tally s (does o)) (stepped s o).system
 unfolding happened event_tally step_tally tally_if pick
-by_event P s valid o did refusal =
-    by_number (stepped s o).refusal 0
-    (λ e. rw (eq-eqb (stepped s o).refusal 0 e, eq-eqb (attempted s o).refusal 0 (attempted-done s valid o e)) (did e))
-    (λ n.
-    ⊎_elim
-    (λ (e : (stepped s o).refusal ≡ 0). absurd (n e))
-    (λ (same : stepped s o ≡ refused (stepped s o).refusal s).
-    rw (ne_eqb (stepped s o).refusal 0 n) (subst (P no_tally) (sym (ap (λ (a : Outcome). a.system) same)) refusal))
-    (done_or_refused s o))
+by_event P s valid o did refusal = grind (arith, attempted-done, done_or_refused)
 
 pub event_balanced : (s : System) → Valid s → (e : Event) → Balanced s (happened s e).system (event_tally s e)
 unfolding happened no_tally

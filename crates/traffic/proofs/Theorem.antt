@@ -1,25 +1,22 @@
 -- For every list of events from a fresh system: sent is taken, waiting and lost; and the counts stay small.
 use Prim.Native.Nat.{ℕ, ◌+◌, ◌*◌, ◌≤◌}
-use mathlib.Core.Path.{◌≡◌, refl, sym, ap, subst}
+use mathlib.Core.Path.{◌≡◌, refl, ap}
 use mathlib.Core.Bool.{true, false}
 use mathlib.Core.List.{List, [], ◌∷◌}
 use native.Mathlib.Omega.{arith}
-use lib.Dec.{eqb}
 use lib.ListN.{length}
 use Rattle.view.specs.Logic.{pick, sum_up_to, is_one_of}
 use Rattle.view.specs.View.{has, count_of}
-use Rattle.view.proofs.Laws.{by_pick, by_test}
 use Rattle.view.proofs.Sums.{sum_past, sum_at_most}
 use Rattle.tallies.specs.declared.Tally.{Tally}
 use Rattle.tallies.specs.Tally.{no_tally, plus}
 use Rattle.channel.specs.declared.Channel.{Channel}
 use Rattle.channel.specs.Channel.{empty_channel}
 use Rattle.system.specs.declared.System.{System}
-use Rattle.system.specs.declared.Outcome.{Outcome}
 use Rattle.system.specs.Fresh.{fresh_system, fresh_of}
 use Rattle.sound.specs.Sound.{sound_system}
-use Rattle.plan.specs.declared.Plan.{Plan}
 use Rattle.plan.specs.declared.Scope.{Scope}
+use Rattle.plan.specs.Plan.{Planned}
 use Rattle.step.specs.Step.{Event, does, happened, ran}
 use Rattle.step.specs.Counts.{waiting_from, waiting_in, one, plan_tally, tally_if, step_tally, event_tally, events_tally, still_waiting, tally_of}
 use Rattle.step.specs.Tallied.{fresh_tally}
@@ -35,8 +32,8 @@ use Rattle.traffic.proofs.Steps.{Balanced, event_balanced}
 -- ---- a list of events
 -- what waits at the end is counted apart
 waiting-apart_if : (k : ℕ) (a : Tally) → a.waiting ≡ 0 → (tally_if k a).waiting ≡ 0
-unfolding tally_if no_tally
-waiting-apart_if k a e = by_pick (λ (b : Tally). b.waiting ≡ 0) (eqb k 0) _ _ (λ plain. e) (λ refusal. refl)
+unfolding tally_if no_tally pick
+waiting-apart_if k a e = grind arith
 
 event_waiting-apart : (s : System) (e : Event) → (event_tally s e).waiting ≡ 0
 unfolding event_tally step_tally plan_tally
@@ -78,18 +75,16 @@ unsound_nothing s e (does o ∷ es) = rw (unsound_is_1 s o e, unsound_nothing s 
 
 pub nobody_sound : sound_system (fresh_system 0) ≡ false
 unfolding fresh_system
-nobody_sound = by_test (sound_system (fresh_system 0)) (λ e. absurd (omega (arith, (sound_facts (fresh_system 0) e).low))) (λ e. e)
+nobody_sound = grind (arith, sound_facts)
 
 nobody_tally : (es : List Event) → tally_of (fresh_system 0) es ≡ no_tally
-unfolding tally_of plus still_waiting no_tally
-nobody_tally es =
-    rw (unsound_nothing (fresh_system 0) nobody_sound es, unsound_stays (fresh_system 0) nobody_sound es, fresh_none 0)
+unfolding tally_of plus still_waiting
+nobody_tally es = grind (arith, unsound_nothing, nobody_sound, unsound_stays, fresh_none)
 
 -- so: what is so of each fresh system of 1 to 8, and of nothing
 pub of_any : (P : Tally → Type 0) (n : ℕ) (es : List Event) → (is_one_of 8 n ≡ true → P (tally_of (fresh_system n) es)) → P no_tally → P (fresh_tally n es)
-unfolding fresh_tally fresh_of
-of_any P n es some none =
-    by_pick (λ (a : Outcome). P (tally_of a.system es)) (is_one_of 8 n) _ _ some (λ e. subst P (sym (nobody_tally es)) none)
+unfolding fresh_tally fresh_of pick
+of_any P n es some none = grind (arith, nobody_tally)
 
 -- ---- sent is taken, waiting and lost
 pub conserved : (n : ℕ) (es : List Event) → Conserved n es
@@ -107,12 +102,12 @@ pub record Small (k : ℕ) (a : Tally) : Type 0 where
   pub committed : a.committed ≤ k
 
 small_if : (k : ℕ) (a : Tally) → Small 1 a → Small 1 (tally_if k a)
-unfolding tally_if no_tally
-small_if k a h = by_pick (Small 1) (eqb k 0) _ _ (λ plain. h) (λ refusal. record { sent = omega arith; proposals = omega arith; committed = omega arith })
+unfolding tally_if no_tally pick
+small_if k a h = grind arith
 
-plan_small : (t : System) (c : Scope) (a : Plan) → Small 1 (plan_tally t c a)
+plan_small : (t : System) (c : Scope) (a : Planned) → Small 1 (plan_tally t c a)
 unfolding plan_tally
-plan_small t c a = record { sent = count_small a.addressees; proposals = one_small _; committed = one_small _ }
+plan_small t c a = grind (arith, count_small, one_small)
 
 event_small : (s : System) (e : Event) → Small 1 (event_tally s e)
 unfolding event_tally step_tally
@@ -120,7 +115,7 @@ event_small s (does o) = small_if _ _ (small_if _ _ (plan_small _ _ _))
 
 all_small : (s : System) (es : List Event) → Small (length es) (events_tally s es)
 unfolding events_tally plus no_tally
-all_small s [] = record { sent = omega arith; proposals = omega arith; committed = omega arith }
+all_small s [] = grind arith
 all_small s (e ∷ es) =
     let first = event_small s e in
     let rest = all_small (happened s e).system es in
@@ -132,20 +127,8 @@ all_small s (e ∷ es) =
 
 tally_small : (s : System) (es : List Event) → Small (length es) (tally_of s es)
 unfolding tally_of plus still_waiting
-tally_small s es =
-    let all = all_small s es in
-    record { sent = omega (arith, all.sent); proposals = omega (arith, all.proposals); committed = omega (arith, all.committed) }
+tally_small s es = grind (arith, all_small)
 
 pub few_counted : (n : ℕ) (es : List Event) → Few n es
 unfolding fresh_tally
-few_counted n es =
-    let small = tally_small (fresh_of n).system es in
-    let whole = conserved n es in
-    record {
-      sent = omega (arith, small.sent);
-      taken = omega (arith, small.sent, whole);
-      waiting = omega (arith, small.sent, whole);
-      lost = omega (arith, small.sent, whole);
-      proposals = omega (arith, small.proposals);
-      committed = omega (arith, small.committed);
-    }
+few_counted n es = grind (arith, tally_small, conserved)

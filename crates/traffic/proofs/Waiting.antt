@@ -13,7 +13,6 @@ use Rattle.view.proofs.Sums.{sum_same, sum-changed, sum-plus, sum_past}
 use Rattle.channel.specs.declared.Message.{Message}
 use Rattle.channel.specs.declared.Channel.{Channel}
 use Rattle.channel.specs.Channel.{empty_channel, pushed, popped}
-use Rattle.system.specs.declared.Process.{Process}
 use Rattle.system.specs.declared.System.{System}
 use Rattle.system.specs.System.{process_at, variables_at, with_process, channel_at, with_channel, broadcasted, room_for}
 use Rattle.plan.specs.declared.Change.{Change}
@@ -37,7 +36,7 @@ towards_sized n s e p = ap (λ (k : ℕ). sum_up_to k (waiting_from s p)) e
 
 pub waiting_sized : (n : ℕ) (s : System) → s.n ≡ n → waiting_in s ≡ waiting_up_to n s
 unfolding waiting_in waiting_towards
-waiting_sized n s e = ap (λ (k : ℕ). sum_up_to k (λ p. sum_up_to k (waiting_from s p))) e
+waiting_sized n s e = grind arith
 
 -- ---- how many a view names
 pub counted_up_to : (v k : ℕ) → each_up_to k (counted_at v) 0 ≡ sum_up_to k (λ j. one (has v j))
@@ -82,7 +81,7 @@ module _ (n : ℕ) (small : n ≤ 8) (s u : System) (ready : Ready s u) (p : ℕ
   after = broadcasted (with_process u p (changed (process_at u p) c)) p to m
 
   was_crashed : (b : ℕ) → (variables_at u b).crashed ≡ (variables_at s b).crashed
-  was_crashed b = ap (λ (y : Process). y.variables.crashed) (ready.frame.processes b)
+  was_crashed b = grind arith
 
   longer : (b : ℕ) → has to b ≡ true → (variables_at s b).crashed ≡ false → waiting_from after b p ≡ waiting_from u b p + 1
   longer b named on =
@@ -92,7 +91,7 @@ module _ (n : ℕ) (small : n ≤ 8) (s u : System) (ready : Ready s u) (p : ℕ
       ∙ push_more (channel_at u p b) m (has_room_lem s u ready p number live c calm to m room b named on)
 
   not_told : (a b : ℕ) → (a ≡ p → has to b ≡ true → (variables_at s b).crashed ≡ false → ⊥) → waiting_from after b a ≡ waiting_from u b a
-  not_told a b h = ap (λ (d : Channel). d.len) (as_before s u ready p number live c calm to m room a b h)
+  not_told a b h = grind (arith, as_before)
 
   each_told : (b : ℕ) → towards_up_to n after b + vanishes_at u to b ≡ towards_up_to n u b + one (has to b)
   unfolding vanishes_at one pick
@@ -113,13 +112,11 @@ module _ (n : ℕ) (small : n ≤ 8) (s u : System) (ready : Ready s u) (p : ℕ
   -- p, which is live, has its own message to itself
   pub own_told : towards_up_to n after p ≡ towards_up_to n u p + one (has to p)
   unfolding vanishes_at one pick
-  own_told =
-      let none : vanishes_at u to p ≡ 0 = by_test (has to p) (λ e. rw (e, was_crashed p ∙ live)) (λ e. rw e) in
-      omega (arith, none, each_told p)
+  own_told = grind (arith, each_told)
 
   -- nobody past n is an addressee
   nobody_past : (k : ℕ) → n < k → has to k ≡ false
-  nobody_past k h = by_test (has to k) (λ e. absurd (omega (arith, has_inside n to k inside e))) (λ e. e)
+  nobody_past k h = grind (arith, has_inside)
 
   -- what waits then, and what vanishes, waited before, or was sent
   pub waits_once_told : waiting_up_to n after + vanished u to ≡ waiting_up_to n u + count_of to

@@ -2,27 +2,25 @@
 -- began (that moment counted) q's view lacked p. By induction over the events: a report of p begins the suspicion, a report of q without p
 -- turns the mark on, and nothing else changes the two views or the mark.
 use Prim.Native.Nat.{ℕ, ◌≤◌}
-use mathlib.Core.Path.{◌≡◌, refl, sym, ◌∙◌, ap, subst}
+use mathlib.Core.Path.{◌≡◌, refl, sym, ◌∙◌, ap}
 use mathlib.Core.Bool.{Bool, true, false, ◌||◌, not}
 use mathlib.Core.List.{List, [], ◌∷◌}
 use native.Mathlib.Omega.{arith}
 use Rattle.view.specs.declared.ProcessId.{ProcessId}
 use Rattle.view.specs.Logic.{pick, is_one_of}
-use Rattle.view.specs.View.{has, within}
-use Rattle.view.proofs.Laws.{by_pick, by_test, by_number, true_is_not_false, one_of, is_one_of_lem}
+use Rattle.view.specs.View.{has}
+use Rattle.view.proofs.Laws.{by_pick, one_of}
 use Rattle.view.proofs.Sets.{has_number, has_inside, everyone-has}
 use Rattle.system.specs.declared.System.{System}
-use Rattle.system.specs.declared.Variables.{Variables}
-use Rattle.system.specs.declared.Outcome.{Outcome}
+use Rattle.system.specs.Outcome.{Outcome}
 use Rattle.system.specs.System.{may_trust}
 use Rattle.system.specs.Fresh.{fresh_variables, fresh_system, fresh_of}
-use Rattle.sound.specs.Sound.{sound_system}
 use Rattle.plan.specs.declared.Cut.{Cut}
 use Rattle.plan.specs.declared.Step.{Step}
 use Rattle.plan.specs.declared.Action.TheVariants.{Report}
 use Rattle.step.specs.Step.{stepped, Event, does, happened, ran}
 use Rattle.step.proofs.Soundness.{Valid, sound_facts}
-use Rattle.step.proofs.Cases.{Known, Doubts, Transition, proposes, follows, outline}
+use Rattle.step.proofs.Cases.{Known, Doubts, Transition, outline}
 use Rattle.step.proofs.Inversion.{transition, by_outcome}
 use Rattle.step.proofs.SoundSteps.{step_sound, run_valid}
 use Rattle.step.proofs.Outcomes.{unsound_is_1, unsound_stays}
@@ -48,22 +46,11 @@ same_lacks : (s t : System) (p q : ℕ) → view_at t p ≡ view_at s p → lack
 unfolding lacks
 same_lacks s t p q e = ap (λ (v : ℕ). not (has v q)) e
 
-or_again : (a b c : Bool) → c ≡ (a || b) → (a || c) ≡ c
-or_again true b c e = sym e
-or_again false b c e = refl
-
-or_false : (a : Bool) → (a || false) ≡ a
-or_false true = refl
-or_false false = refl
-
 -- one moment more, with the same views of p and q
 since_same : (p q : ℕ) (s t : System) (before : List System) → lacks t p q ≡ true → view_at t p ≡ view_at s p → view_at t q ≡ view_at s q
     → since p q t (s ∷ before) ≡ since p q s before
 unfolding since
-since_same p q s t before e a b =
-    since_more p q t (s ∷ before) e
-    ∙ ap (λ (x : Bool). x || since p q s before) (same_lacks s t q p b)
-    ∙ or_again (lacks s q p) (lacked_once p q (suspicion p q before)) (since p q s before) (since_more p q s before (sym (same_lacks s t p q a) ∙ e))
+since_same p q s t before e a b = grind (arith, since_more, same_lacks)
 
 -- ---- one step
 -- of each two processes
@@ -74,77 +61,25 @@ module _ (s t : System) (before : List System) (p q : ℕ) (other : q ≡ p → 
   -- p is told a view without q: a suspicion begins, or goes on
   renewed_first : (v : ℕ) → view_at t p ≡ v → view_at t q ≡ view_at s q → Doubts s t p v → may_trust t p q ≡ since p q t (s ∷ before)
   unfolding lacks since
-  renewed_first v new same d =
-      let gone : has v q ≡ false = off (has v q) (ap (λ (w : ℕ). not (has w q)) (sym new) ∙ e) in
-      by_test (has (view_at s p) q)
-      (λ there.
-      d.begins q there gone
-      ∙ ap (λ (w : ℕ). not (has w p)) (sym same)
-      ∙ sym (or_false (lacks t q p))
-      ∙ ap (λ (x : Bool). lacks t q p || x) (sym (since_none p q s before (ap not there)))
-      ∙ sym (since_more p q t (s ∷ before) e))
-      (λ absent.
-      d.rest p q (λ i there. true_is_not_false (sym there ∙ absent)) (λ i. absurd (other i))
-      ∙ was (ap not absent)
-      ∙ sym (or_again (lacks s q p) (lacked_once p q (suspicion p q before)) (since p q s before) (since_more p q s before (ap not absent)))
-      ∙ ap (λ (x : Bool). x || since p q s before) (sym (same_lacks s t q p same))
-      ∙ sym (since_more p q t (s ∷ before) e))
-    where
-      off : (x : Bool) → not x ≡ true → x ≡ false
-      off true z = sym z
-      off false z = refl
+  renewed_first v new same d = grind (arith, since_none, since_more)
 
   -- q is told a view: one without p turns the mark on
   renewed_second : (v : ℕ) → view_at t q ≡ v → view_at t p ≡ view_at s p → 1 ≤ p → p ≤ s.n → Doubts s t q v → may_trust t p q ≡ since p q t (s ∷ before)
   unfolding lacks since
-  renewed_second v new same low high d =
-      let was-lacking : lacks s p q ≡ true = sym (same_lacks s t p q same) ∙ e in
-      by_test (has v p)
-      (λ there.
-      d.rest p q (λ i. absurd (other (sym i))) (λ i l h gone. true_is_not_false (sym there ∙ gone))
-      ∙ was was-lacking
-      ∙ ap (λ (x : Bool). x || since p q s before) (sym (ap (λ (w : ℕ). not (has w p)) new ∙ ap not there))
-      ∙ sym (since_more p q t (s ∷ before) e))
-      (λ gone.
-      d.turns p low high gone
-      ∙ ap (λ (x : Bool). x || since p q s before) (sym (ap (λ (w : ℕ). not (has w p)) new ∙ ap not gone))
-      ∙ sym (since_more p q t (s ∷ before) e))
+  renewed_second v new same low high d = grind (arith, since_more)
 
   -- neither
   unmoved : view_at t p ≡ view_at s p → view_at t q ≡ view_at s q → may_trust t p q ≡ may_trust s p q → may_trust t p q ≡ since p q t (s ∷ before)
-  unmoved a b same = same ∙ was (sym (same_lacks s t p q a) ∙ e) ∙ sym (since_same p q s t before e a b)
-
-known_back : {s t : System} {k : ℕ} → t.n ≡ s.n → Known t k → Known s k
-known_back e k = record { low = k.low; high = omega (arith, k.high, e); eight = k.eight }
+  unmoved a b same = grind (arith, same_lacks, since_same)
 
 -- a process is never without itself
 apart : (s : System) → Valid s → (p q : ℕ) → Known s p → lacks s p q ≡ true → q ≡ p → ⊥
 unfolding lacks
-apart s valid p q k e same =
-    true_is_not_false (sym (subst (λ (j : ℕ). lacks s p j ≡ true) same e) ∙ ap not ((sound_facts s valid.sound).process p k.low k.high).variables.own)
+apart s valid p q k e same = grind (arith, sound_facts)
 
 one_step : (s t : System) (before : List System) → t.n ≡ s.n → Valid t → Views s t → Meant s before → Meant t (s ∷ before)
-one_step s t before size valid (kept same trust) was p q kp kq e =
-    unmoved s t before p q (apart t valid p q kp e) e (was p q (known_back size kp) (known_back size kq)) (same p) (same q) (trust p q)
-one_step s t before size valid (renewed r v new same d) was p q kp kq e =
-    let other = apart t valid p q kp e in
-    let old = was p q (known_back size kp) (known_back size kq) in
-    by_number p r
-    (λ i.
-    renewed_first s t before p q other e old v
-    (subst (λ (j : ℕ). view_at t j ≡ v) (sym i) new)
-    (same q (λ z. other (z ∙ sym i)))
-    (subst (λ (j : ℕ). Doubts s t j v) (sym i) d))
-    (λ not-p.
-    by_number q r
-    (λ i.
-    renewed_second s t before p q other e old v
-    (subst (λ (j : ℕ). view_at t j ≡ v) (sym i) new)
-    (same p not-p)
-    kp.low
-    (omega (arith, kp.high, size))
-    (subst (λ (j : ℕ). Doubts s t j v) (sym i) d))
-    (λ not-q. unmoved s t before p q other e old (same p not-p) (same q not-q) (d.rest p q (λ i. absurd (not-p i)) (λ i. absurd (not-q i)))))
+one_step s t before size valid (kept same trust) was p q kp kq e = grind (arith, unmoved, apart)
+one_step s t before size valid (renewed r v new same d) was p q kp kq e = grind (arith, apart, renewed_first, renewed_second, unmoved)
 
 -- a refused step is one moment more
 again : (s : System) (before : List System) → Meant s before → Meant s (s ∷ before)
@@ -169,11 +104,7 @@ after_all s before valid was (does o ∷ es) p q kp kq e =
 -- nobody is suspected in a fresh system
 fresh_meant : (n : ℕ) → n ≤ 8 → Meant (fresh_system n) []
 unfolding lacks fresh_variables fresh_system
-fresh_meant n small p q kp kq e =
-    true_is_not_false
-    (sym e
-    ∙ ap (λ (x : Variables). not (has x.view q)) (fresh_variables_lem n p kp.low kp.eight)
-    ∙ ap not (everyone-has n q small ∙ is_one_of_lem n q kq.low kq.high))
+fresh_meant n small p q kp kq e = grind (arith, fresh_variables_lem, everyone-has)
 
 same_size : (s : System) → Valid s → (es : List Event) → (ran s es).n ≡ s.n
 unfolding ran happened
@@ -186,8 +117,7 @@ same_size s valid (does o ∷ es) =
 module _ (n : ℕ) (e : is_one_of 8 n ≡ true) (es : List Event) where
   known : (k : ℕ) → 1 ≤ k → k ≤ n → Known (ran (fresh_system n) es) k
   unfolding fresh_system
-  known k low high =
-      record { low = low; high = omega (arith, same_size (fresh_system n) (fresh_valid n e) es); eight = omega (arith, one_of 8 n e) }
+  known k low high = grind (arith, same_size, fresh_valid)
 
   meant : (p q : ℕ) → 1 ≤ p → p ≤ n → 1 ≤ q → q ≤ n → lacks (ran (fresh_system n) es) p q ≡ true
       → may_trust (ran (fresh_system n) es) p q ≡ lacked_once p q (suspicion p q (moments_after [] (fresh_system n) es))
@@ -197,47 +127,17 @@ module _ (n : ℕ) (e : is_one_of 8 n ≡ true) (es : List Event) where
   brought_back : {t : System} (p : ProcessId) (v q : ℕ) → Transition (ran (fresh_system n) es) t (Report p v) → lacks (ran (fresh_system n) es) p.0 q ≡ true → has v q ≡ true
       → lacked_once p.0 q (suspicion p.0 q (moments_after [] (fresh_system n) es)) ≡ true
   unfolding lacks fresh_system
-  brought_back p v q r gone named =
-      let s = ran (fresh_system n) es in
-      let size = same_size (fresh_system n) (fresh_valid n e) es in
-      let k = may r in
-      let there = has_number v q named in
-      sym (meant p.0 q k.0.low (omega (arith, k.0.high, size)) there.0 (omega (arith, has_inside s.n v q k.1 named, size)) gone) ∙ k.2
-    where
-      off : (x : Bool) → not x ≡ true → x ≡ false
-      off true z = sym z
-      off false z = refl
-
-      may : {t : System} → Transition (ran (fresh_system n) es) t (Report p v)
-          → Known (ran (fresh_system n) es) p.0 × (within (ran (fresh_system n) es).n v ≡ true) × (may_trust (ran (fresh_system n) es) p.0 q ≡ true)
-      may (proposes k) = (k.acts.known, k.inside, k.trusted q named (off _ gone))
-      may (follows k) = (k.acts.known, k.inside, k.trusted q named (off _ gone))
+  brought_back p v q r gone named = grind (arith, same_size, fresh_valid, has_number, meant, has_inside)
 
 -- ---- of any number n
-nobody : (k : ℕ) → is_one_of (fresh_system 0).n k ≡ true → ⊥
-unfolding fresh_system
-nobody k e = omega (arith, one_of (fresh_system 0).n k e)
-
 pub meaning : (n : ℕ) (es : List Event) (p q : ℕ) → Means n es p q
-unfolding fresh_of lacked_since fresh_system
-meaning n es p q =
-    by_pick
-    (λ (a : Outcome). is_one_of a.system.n p ≡ true → is_one_of a.system.n q ≡ true → lacks (ran a.system es) p q ≡ true
-    → may_trust (ran a.system es) p q ≡ lacked_once p q (suspicion p q (moments_after [] a.system es)))
-    (is_one_of 8 n) _ _
-    (λ e kp kq. meant n e es p q (one_of n p kp).0 (one_of n p kp).1 (one_of n q kq).0 (one_of n q kq).1)
-    (λ e kp. absurd (nobody p kp))
+unfolding fresh_of lacked_since fresh_system pick
+meaning n es p q = grind (arith, meant)
 
 -- nothing is done in a system of zero processes, which is not sound
 none_done_lem : (es : List Event) (o : Step) → (stepped (ran (fresh_system 0) es) o).refusal ≡ 0 → ⊥
 unfolding fresh_system
-none_done_lem es o done =
-    by_test (sound_system (fresh_system 0))
-    (λ e. absurd (omega (arith, (sound_facts (fresh_system 0) e).low)))
-    (λ e.
-    let one : (stepped (ran (fresh_system 0) es) o).refusal ≡ 1 =
-    ap (λ (s : System). (stepped s o).refusal) (unsound_stays (fresh_system 0) e es) ∙ ap (λ (a : Outcome). a.refusal) (unsound_is_1 (fresh_system 0) o e) in
-    omega arith)
+none_done_lem es o done = grind (arith, sound_facts, unsound_stays, unsound_is_1)
 
 pub comes_back : (n : ℕ) (es : List Event) (p : ProcessId) (v : ℕ) (cut : Cut) (q : ℕ) → ComesBack n es p v cut q
 unfolding fresh_of lacked_since

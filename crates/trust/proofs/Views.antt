@@ -3,6 +3,7 @@ use Prim.Native.Nat.{ℕ}
 use mathlib.Core.Path.{◌≡◌, refl, ◌∙◌, ap}
 use mathlib.Core.Bool.{Bool}
 use mathlib.Core.List.{List}
+use native.Mathlib.Omega.{arith}
 use Rattle.channel.specs.declared.Message.{Message}
 use Rattle.system.specs.declared.Process.{Process}
 use Rattle.system.specs.declared.System.{System}
@@ -10,7 +11,6 @@ use Rattle.system.specs.System.{variables_at}
 use Rattle.plan.specs.declared.Change.{Change}
 use Rattle.plan.specs.declared.Action.{Action}
 use Rattle.step.proofs.Cases.{afterwards, Effect, SameTrust, Doubts, Transition, proposes, follows, records, reproposes, ignores, marks, commits, enters, accepts, declines, crashes}
-use Rattle.step.proofs.Effects.{each_process}
 
 abbrev pub view_at : System → ℕ → ℕ
 view_at s k = (variables_at s k).view
@@ -23,7 +23,7 @@ pub data Views (s t : System) : Type 0 where
 module _ {s t : System} {left : ℕ → ℕ → List Message} {p : ℕ} {c : Change} {stops : Bool} {to : ℕ} {m : Message} (f : Effect s t left p c stops to m) where
   stays_so : c.variables.view ≡ view_at s p → SameTrust s t → Views s t
   unfolding afterwards
-  stays_so e trust = kept (each_process f (λ k (x : Process). x.variables.view ≡ view_at s k) e (λ k. refl)) trust
+  stays_so e trust = grind arith
 
   is_renewed : (v : ℕ) → c.variables.view ≡ v → Doubts s t p v → Views s t
   unfolding afterwards
