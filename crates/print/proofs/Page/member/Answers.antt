@@ -1,10 +1,11 @@
--- `print::put_member`: the digit of a process that the view names.
+-- `print::Page::member`: the digit of a process that the view names.
 use mathlib.Core.Path.{sym, ◌∙◌}
 use native.Mathlib.Omega.{arith}
 use Rattle.view.specs.Logic.{pick}
 use Rattle.print.specs.Text.{member_text}
-use Rattle.print.proofs.Laws.{nothing_typed, small_member}
-use Rattle.print.proofs.put_member.Goals as goal
+use Rattle.print.proofs.Laws.{small_member}
+use Rattle.print.proofs.Typing.{typed_on_nil}
+use Rattle.print.proofs.Page.member.Goals as goal
 
 pub overflow_add-p : goal.overflow_add-p
 overflow_add-p c = let a = c.args in
@@ -12,8 +13,8 @@ overflow_add-p c = let a = c.args in
 
 pub returns-then-has : goal.returns-then-has
 unfolding member_text pick
-returns-then-has c = rw (← c.has.ensures, c.if-has.true) c.put_byte.ensures
+returns-then-has c = rw (← c.has.ensures, c.if-has.true) c.byte.ensures
 
 pub returns-else-has : goal.returns-else-has
 unfolding member_text pick
-returns-else-has c = rw (← c.has.ensures, c.if-has.false) (nothing_typed _)
+returns-else-has c = rw (← c.has.ensures, c.if-has.false) (sym (typed_on_nil _))

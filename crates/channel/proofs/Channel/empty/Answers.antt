@@ -1,7 +1,7 @@
--- `channel::empty` is its definition.
+-- `Channel::empty` is its definition.
 use mathlib.Core.Path.{refl}
 use Rattle.channel.specs.Channel.{empty_channel}
-use Rattle.channel.proofs.empty.Goals as goal
+use Rattle.channel.proofs.Channel.empty.Goals as goal
 
 pub returns : goal.returns
 unfolding empty_channel
