@@ -1,5 +1,5 @@
 -- Laws of typing on a page, and of numbers and views as texts.
-use Prim.Native.Nat.{ℕ, suc, ◌+◌, ◌≤◌, ◌<◌, ◌^◌}
+use Prim.Native.Nat.{ℕ, suc, ◌+◌, ◌≤◌}
 use mathlib.Core.Path.{◌≡◌, refl, sym, ◌∙◌, ap}
 use mathlib.Core.Bool.{Bool, true, false}
 use mathlib.Core.List.{List, [], ◌∷◌, ◌++◌}
@@ -10,12 +10,9 @@ use borrow.Author.Tests.{lt-ltb, le-ltb, ltb-true}
 use lib.Dec.{ltb}
 use lib.ListN.{length, take, drop, set, length-set}
 use lib.Seq.{sets, sets-eq}
-use Rattle.std.specs.Fmt.{decimal as machine_decimal}
-use Rattle.std.proofs.lemmas.Fmt.{AppendsLastDigit, decimal_from_appends, length-decimal-le}
 use Rattle.view.specs.Logic.{pick, is_one_of}
 use Rattle.view.proofs.Laws.{and_left, one_of}
 use Rattle.view.specs.View.{has}
-use Rattle.print.specs.Text.{digits, decimal}
 use Rattle.print.specs.Page.{Page, page, typed_byte, typed, StandsFirst}
 
 -- ---- one byte
@@ -96,20 +93,3 @@ printed_whole b c t m n long room e =
 pub small_member : (v k : ℕ) → has v k ≡ true → k ≤ 8
 unfolding has
 small_member v k e = (one_of 8 k (and_left (is_one_of 8 k) _ e)).1
-
--- ---- the digits of a number of the machine are those that the library writes
-appends_last_digit : AppendsLastDigit digits
-unfolding digits pick
-appends_last_digit =
-    record {
-      one = λ k n h. rw (lt-ltb n 10 h);
-      more = λ k n h. rw (le-ltb n 10 h);
-    }
-
-pub one_digit : (k : ℕ) → k < 10 → decimal k ≡ (48 + k) ∷ []
-unfolding decimal digits pick
-one_digit k h = rw (lt-ltb k 10 h)
-
-pub same_decimal : (k : ℕ) → k < 2 ^ 64 → decimal k ≡ machine_decimal k
-unfolding decimal
-same_decimal k h = decimal_from_appends digits appends_last_digit 20 k h (length-decimal-le 20 k (omega arith) (omega arith) h)

@@ -1,5 +1,5 @@
 -- Laws of typing on a page of the code.
-use Prim.Native.Nat.{ℕ, zero, suc, ◌+◌, ◌-◌, ◌≤◌, ◌<◌}
+use Prim.Native.Nat.{ℕ, zero, suc, ◌+◌, ◌-◌, ◌/◌, ◌%◌, ◌≤◌, ◌<◌}
 use mathlib.Core.Path.{◌≡◌, refl, ap}
 use mathlib.Core.List.{List, [], ◌∷◌, ◌++◌}
 use native.Mathlib.Omega.{arith}
@@ -10,7 +10,7 @@ use lib.Seq.{take-suc}
 use Rattle.std.specs.Borrow.{MutBor}
 use Rattle.view.specs.Logic.{pick}
 use Rattle.print.specs.declared.Page.{Page}
-use Rattle.print.specs.Text.{text_up_to}
+use Rattle.print.specs.Text.{text_up_to, digit, digits}
 use Rattle.print.specs.Page.{page, typed_byte, typed, page_from, page_of, with_page, typed_on, StandsFirst}
 use Rattle.print.proofs.Laws.{typed-append, same_room, within_buffer, printed_whole}
 
@@ -54,6 +54,22 @@ pub next_text : (o p q : Page) (k n : ℕ) (f : ℕ → List ℕ) → 1 ≤ k �
 unfolding text_up_to
 next_text o p q zero n f h e at_k here = absurd (omega arith)
 next_text o p q (suc k) n f h e at_k here = rw e (typed_in_turn o p q _ _ (rw sub-one at at_k) here)
+
+-- ---- digits: none of the last 0; a number below ten is its one digit; before the last digit stand those of the tenth
+pub no_digits_on : (p : Page) (n k : ℕ) → n ≡ 0 → p ≡ typed_on p (digits n k)
+unfolding digits typed_on typed
+no_digits_on p n k e = rw e
+
+pub last_digit_on : (o p q : Page) (n k : ℕ) → 0 < n → 10 ≤ k → p ≡ typed_on o (digits (n - 1) (k / 10)) → q ≡ typed_on p (digit (k % 10))
+    → q ≡ typed_on o (digits n k)
+unfolding digits pick
+last_digit_on o p q zero k h l e f = absurd (omega arith)
+last_digit_on o p q (suc n) k h l e f = rw (le-ltb k 10 l) (typed_in_turn o p q _ _ (rw sub-one at e) f)
+
+pub only_digit_on : (o q : Page) (n k : ℕ) → 0 < n → k < 10 → q ≡ typed_on o (digit (k % 10)) → q ≡ typed_on o (digits n k)
+unfolding digits pick
+only_digit_on o q zero k h l e = absurd (omega arith)
+only_digit_on o q (suc n) k h l e = let same : k % 10 ≡ k = omega arith in rw (lt-ltb k 10 l) (rw same at e)
 
 -- ---- what was lent
 pub same_buffer : (p : Page) (t : List ℕ) → (typed_on p t).buffer.ghost_name ≡ p.buffer.ghost_name

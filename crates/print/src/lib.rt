@@ -1,16 +1,15 @@
 // What is printed: texts are typed on a page.
 #![tactic(auto, using(crate::proofs::Typing::typing), unfolding(view::specs::Logic::pick, crate::specs::Text::bytes, crate::specs::Print::numbered_line, crate::specs::Print::column_line, crate::specs::Print::entry_text, crate::specs::Print::unit_line))]
 
-ghost use Rattle.std.specs.Prelude.{◌≡◌, [], ◌∷◌, ◌++◌};
+ghost use Rattle.std.specs.Prelude.{◌≡◌, ◌%◌, [], ◌∷◌, ◌++◌};
 ghost use Rattle.view.specs.Logic.{pick};
 ghost use Rattle.system.specs.System.{process_at};
 ghost use Rattle.image.specs.Image.{system_in};
-ghost use Rattle.print.specs.Text.{bytes, decimal, member_text, view_text};
+ghost use Rattle.print.specs.Text.{bytes, digit, digits, decimal, member_text, view_text};
 ghost use Rattle.print.specs.Page.{page_from, typed_on};
 ghost use Rattle.print.specs.Print.{numbers, three_numbers, numbered_line, column_line, entry_text, history_text, unit_line, unit_lines};
 
 use image::{entry_at, size, variables_at};
-use itoa::Buffer;
 use view::{GroupIndex, ProcessId};
 
 // A lent buffer, and the place in it where the next byte goes. A byte for which there is no room is dropped.
@@ -21,7 +20,8 @@ pub struct Page<'a> {
     place: usize,
 }
 
-// No `fmt::Write`: `write!` promises its text only where it answers `Ok`, and to print never fails.
+// No `fmt::Write`, and no `Display` of what is printed: `write!` promises its text only where it answers `Ok`, and to
+// print never fails.
 impl<'a> Page<'a> {
     pub fn new(buffer: &'a mut [u8], place: usize) -> Page<'a>
         ensures { result ≡ page_from buffer.entry place }
@@ -53,15 +53,38 @@ impl<'a> Page<'a> {
         }
     }
 
-    // A number in decimal. Most have one digit, for which the library takes longer.
+    // The last digit of a number.
+    fn digit(&mut self, k: usize)
+        ensures { self.new ≡ typed_on self.old (digit (k % 10)) }
+    {
+        self.byte(b'0' + (k % 10) as u8);
+    }
+
+    // The last n digits of a number, with no zero in front.
+    fn digits(&mut self, n: u8, k: usize)
+        ensures { self.new ≡ typed_on self.old (digits n k) }
+    {
+        if n != 0 {
+            if 10 <= k {
+                self.digits(n - 1, k / 10);
+            }
+            self.digit(k);
+        }
+    }
+
+    // A number in decimal. By hand: std writes numbers by `write!` alone, which promises its text only
+    // where it answers `Ok`. Most have one or two digits, which are typed without a turn.
     pub fn decimal(&mut self, k: usize)
         ensures { self.new ≡ typed_on self.old (decimal k) }
     {
+        let tens = k / 10;
         if k < 10 {
-            self.byte(b'0' + k as u8);
+            self.digit(k);
+        } else if tens < 10 {
+            self.digit(tens);
+            self.digit(k);
         } else {
-            let mut digits = Buffer::new();
-            self.text(digits.format(k).as_bytes());
+            self.digits(20, k);
         }
     }
 
