@@ -1,6 +1,6 @@
 // The functions for programs in C and other languages: the engine's, with plain numbers. A
 // process's number is wrapped at once; everything below takes it as a `ProcessId`. Crate capi_c
-// exports each of them.
+// exports each of them. Answers are numbers, and not Results, since C knows no others.
 #![tactic(auto)]
 
 ghost use Rattle.std.specs.Prelude.{◌≡◌};
@@ -19,7 +19,7 @@ use engine::perform;
 use fresh::put_fresh;
 use image::IMAGE;
 use list::perform_all;
-use plan::{Action, Cut, Step};
+use plan::{Action, Step};
 use settle::Ending;
 use system::refusal::{Refusal, number_of};
 use view::{ProcessId, is_one_of};
@@ -47,24 +47,6 @@ pub fn lobstercreel_fresh(image: &mut [u8], n: u8) -> u8
     number_of(freshen(image, n))
 }
 
-fn whole(action: Action) -> Step
-    ensures { result ≡ whole action }
-{
-    Step {
-        action,
-        cut: Cut::Whole,
-    }
-}
-
-fn cut_after(action: Action, k: u8) -> Step
-    ensures { result ≡ cut_after action k }
-{
-    Step {
-        action,
-        cut: Cut::After(k),
-    }
-}
-
 fn step(image: &mut [u8], o: Step) -> u8
     ensures { Gives (stepped (system_in image.old) o) image.old result image.new }
 {
@@ -75,35 +57,44 @@ fn step(image: &mut [u8], o: Step) -> u8
 pub fn lobstercreel_report(image: &mut [u8], p: u8, view: u8) -> u8
     ensures { Gives (stepped (system_in image.old) (whole (Action.Report (record { 0 = p }) view))) image.old result image.new }
 {
-    step(image, whole(Action::Report(ProcessId(p), view)))
+    step(image, Step::whole(Action::Report(ProcessId(p), view)))
 }
 
 // Process p takes the oldest message from process q.
 pub fn lobstercreel_receive(image: &mut [u8], q: u8, p: u8) -> u8
     ensures { Gives (stepped (system_in image.old) (whole (Action.Receive (record { 0 = q }) (record { 0 = p })))) image.old result image.new }
 {
-    step(image, whole(Action::Receive(ProcessId(q), ProcessId(p))))
+    step(
+        image,
+        Step::whole(Action::Receive(ProcessId(q), ProcessId(p))),
+    )
 }
 
 // Process p answers the proposal that it recorded from process q.
 pub fn lobstercreel_respond(image: &mut [u8], p: u8, q: u8) -> u8
     ensures { Gives (stepped (system_in image.old) (whole (Action.Respond (record { 0 = p }) (record { 0 = q })))) image.old result image.new }
 {
-    step(image, whole(Action::Respond(ProcessId(p), ProcessId(q))))
+    step(
+        image,
+        Step::whole(Action::Respond(ProcessId(p), ProcessId(q))),
+    )
 }
 
 // Process p stops for good.
 pub fn lobstercreel_crash(image: &mut [u8], p: u8) -> u8
     ensures { Gives (stepped (system_in image.old) (whole (Action.Crash (record { 0 = p })))) image.old result image.new }
 {
-    step(image, whole(Action::Crash(ProcessId(p))))
+    step(image, Step::whole(Action::Crash(ProcessId(p))))
 }
 
 // Process p is told its view, and stops after k of its messages.
 pub fn lobstercreel_report_cut(image: &mut [u8], p: u8, view: u8, k: u8) -> u8
     ensures { Gives (stepped (system_in image.old) (cut_after (Action.Report (record { 0 = p }) view) k)) image.old result image.new }
 {
-    step(image, cut_after(Action::Report(ProcessId(p), view), k))
+    step(
+        image,
+        Step::cut_after(Action::Report(ProcessId(p), view), k),
+    )
 }
 
 // Process p takes the oldest message from process q, and stops after k of its messages.
@@ -112,7 +103,7 @@ pub fn lobstercreel_receive_cut(image: &mut [u8], q: u8, p: u8, k: u8) -> u8
 {
     step(
         image,
-        cut_after(Action::Receive(ProcessId(q), ProcessId(p)), k),
+        Step::cut_after(Action::Receive(ProcessId(q), ProcessId(p)), k),
     )
 }
 
@@ -122,11 +113,12 @@ pub fn lobstercreel_respond_cut(image: &mut [u8], p: u8, q: u8, k: u8) -> u8
 {
     step(
         image,
-        cut_after(Action::Respond(ProcessId(p), ProcessId(q)), k),
+        Step::cut_after(Action::Respond(ProcessId(p), ProcessId(q)), k),
     )
 }
 
-// 0 for a system at rest, 1 for one held up, 2 where the budget was used up.
+// 0 for a system at rest, 1 for one held up, 2 where the budget was used up. No `From`: crate settle declares the
+// type and knows nothing of C's numbers.
 #[tactic(auto, unfolding(crate::specs::Calls::ending_number))]
 fn ending_number(e: Ending) -> u16
     ensures { result ≡ ending_number e }
@@ -167,7 +159,6 @@ pub fn lobstercreel_settle(image: &mut [u8], told: &mut [u16; 2]) -> u8
 
 // A whole sheet, from its bytes to what is printed, as far as the buffer has room. The answer is how
 // many bytes were written: where it is less than the buffer's length, nothing was cut off.
-
 pub fn lobstercreel_run(sheet: &[u8], out: &mut [u8]) -> usize
     ensures { Prints (output sheet.now) out.old result out.new }
 {

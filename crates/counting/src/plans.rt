@@ -17,7 +17,7 @@ use system::refusal::Refusal;
 use system::{Proposal, Variables};
 use view::{GroupIndex, ProcessId, everyone, minus, with};
 
-// Whom an action names.
+// Whom an action names. A match, as in `attempt` of the engine.
 #[tactic(auto, unfolding(step::specs::Scope::scope_of))]
 pub fn scope_of(o: Action) -> Scope
     ensures { result ≡ scope_of o }

@@ -150,6 +150,8 @@ fn trust_place(image: &[u8], p: ProcessId) -> Option<usize>
 }
 
 // ---- the parts and their bytes
+// By functions of their names: crate image declares none of the types, so no `From` may stand here, and the crates
+// that declare them know nothing of an image.
 
 #[tactic(auto, unfolding(crate::specs::Image::variables_in, crate::specs::Image::variables_of, view::specs::Logic::pick))]
 pub fn variables_of(bytes: [u8; VARIABLES]) -> Variables

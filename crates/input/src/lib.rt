@@ -74,7 +74,7 @@ fn read_some<R: Read>(
 }
 
 // Reads until the buffer is full, the input ends or a read fails: how many bytes came. Where it is
-// known what the reader gives, that is what stands in the buffer.
+// known what the reader gives, that is what stands in the buffer. No count: each turn goes on by what has come.
 pub fn read_input<R: Read>(reader: &mut R, buf: &mut [u8]) -> Result<usize, ReadFailed>
     ensures received { Received result buf.old buf.new }
     ensures bytes { Consumes (R.remaining reader.old) (R.remaining reader.new) (take (read_len result) buf.new) }

@@ -14,7 +14,7 @@ use plan::{Action, Cut, Step};
 use system::refusal::{Refusal, number_of};
 use view::ProcessId;
 
-// The fourth byte of an order whose step is whole.
+// The fourth byte of an order whose step is whole: a number, since a list is bytes of a caller in C.
 pub const WHOLE: u8 = 255;
 
 // What the fourth byte says: any other is the number of messages after which the step is cut.

@@ -9,7 +9,7 @@ ghost use Rattle.step.specs.Step.{stepped};
 ghost use Rattle.settle.specs.Settle.{settled, settled_of};
 
 use image::blank_image;
-use plan::{Action, Cut, Step};
+use plan::{Action, Step};
 use settle::SettledSystem;
 use system::{Refused, System};
 use view::ProcessId;
@@ -26,45 +26,32 @@ pub fn perform(s: System, o: Step) -> Result<System, Refused>
     }
 }
 
-// What a process does in a step that is not cut.
-fn perform_whole(s: System, o: Action) -> Result<System, Refused>
-    ensures { outcome_of result ≡ stepped s (whole o) }
-{
-    perform(
-        s,
-        Step {
-            action: o,
-            cut: Cut::Whole,
-        },
-    )
-}
-
 // Process p is told its view.
 pub fn report(s: System, p: ProcessId, view: u8) -> Result<System, Refused>
     ensures { outcome_of result ≡ stepped s (whole (Action.Report p view)) }
 {
-    perform_whole(s, Action::Report(p, view))
+    perform(s, Step::whole(Action::Report(p, view)))
 }
 
 // Process p takes the oldest message from process q.
 pub fn receive(s: System, q: ProcessId, p: ProcessId) -> Result<System, Refused>
     ensures { outcome_of result ≡ stepped s (whole (Action.Receive q p)) }
 {
-    perform_whole(s, Action::Receive(q, p))
+    perform(s, Step::whole(Action::Receive(q, p)))
 }
 
 // Process p answers the proposal that it recorded from process q.
 pub fn respond(s: System, p: ProcessId, q: ProcessId) -> Result<System, Refused>
     ensures { outcome_of result ≡ stepped s (whole (Action.Respond p q)) }
 {
-    perform_whole(s, Action::Respond(p, q))
+    perform(s, Step::whole(Action::Respond(p, q)))
 }
 
 // Process p stops for good.
 pub fn crash(s: System, p: ProcessId) -> Result<System, Refused>
     ensures { outcome_of result ≡ stepped s (whole (Action.Crash p)) }
 {
-    perform_whole(s, Action::Crash(p))
+    perform(s, Step::whole(Action::Crash(p)))
 }
 
 // The settling run: takes and answers, until a whole round of them does nothing.

@@ -14,7 +14,7 @@ ghost use Rattle.orders.specs.Walks.{link_move_at, process_move_at, together, Fi
 use engine::attempt;
 use fresh::put_fresh;
 use image::{blank_image, entry_at};
-use plan::{Action, Cut, Step};
+use plan::{Action, Step};
 use std::ops::Add;
 use system::refusal::Refusal;
 use view::{GroupIndex, ProcessId, everyone, is_one_of};
@@ -125,11 +125,7 @@ fn try_move(image: &[u8], copied: &mut [u8], action: Action) -> bool
     ensures { Tries action (system_in image.now) result copied.new }
 {
     copied.copy_from_slice(image);
-    let step = Step {
-        action,
-        cut: Cut::Whole,
-    };
-    attempt(copied, step).is_ok()
+    attempt(copied, Step::whole(action)).is_ok()
 }
 
 // The runs of so many turns more, the link's first: it passes, or makes one of its moves.

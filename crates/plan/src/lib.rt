@@ -9,7 +9,7 @@ ghost use Rattle.system.specs.declared.refusal.Refusal.TheVariants.{ChannelFull}
 ghost use Rattle.plan.specs.Fields.{with_view, with_next, with_acks, proposing, reproposing};
 ghost use Rattle.plan.specs.Plan.{new_view_plan, report_plan, committing_plan, message_plan, receive_plan, respond_plan};
 ghost use Rattle.plan.specs.Choice.{reported_plan, report_fits, received_plan, responded_plan};
-ghost use Rattle.plan.specs.Cut.{reach_of, only_whole};
+ghost use Rattle.plan.specs.Cut.{whole, cut_after, reach_of, only_whole};
 
 use channel::Message;
 use system::refusal::Refusal;
@@ -29,7 +29,7 @@ pub enum Action {
     Crash(ProcessId),
 }
 
-// How much of a step is done.
+// How much of a step is done. No Option of a number: its `None` would say neither that all is done nor that nothing is.
 #[derive(Clone, Copy)]
 pub enum Cut {
     // All of it.
@@ -43,6 +43,28 @@ pub enum Cut {
 pub struct Step {
     pub action: Action,
     pub cut: Cut,
+}
+
+impl Step {
+    // The action, not cut.
+    pub fn whole(action: Action) -> Self
+        ensures { result ≡ whole action }
+    {
+        Step {
+            action,
+            cut: Cut::Whole,
+        }
+    }
+
+    // The action, cut after k of its messages.
+    pub fn cut_after(action: Action, k: u8) -> Self
+        ensures { result ≡ cut_after action k }
+    {
+        Step {
+            action,
+            cut: Cut::After(k),
+        }
+    }
 }
 
 // Whom an action names.
@@ -81,7 +103,8 @@ impl Scope {
 }
 
 // What becomes of the acting process: its variables; what it has recorded from the proposer, where
-// that is not 0; its history's entry at the index, where that is not 0.
+// that is not 0; its history's entry at the index, where that is not 0. No Options: what is put at number 0 changes
+// nothing, whatever the table, so that one equation says each change, and not one for each case.
 #[derive(Clone, Copy)]
 pub struct Change {
     pub variables: Variables,
@@ -92,7 +115,8 @@ pub struct Change {
 }
 
 // What a step does once it is permitted: the acting process changes so, sends the message to every
-// process of the view, and then stops or not; it comes to suspect some processes, or goes on to.
+// process of the view, and then stops or not; it comes to suspect some processes, or goes on to. `stops` is no case of
+// its own: a cut step sends and stops, and a stop only stops.
 #[derive(Clone, Copy)]
 pub struct Plan {
     pub change: Change,

@@ -20,7 +20,7 @@ use tallies::Tally;
 
 // What the lines of a sheet run on: an image whose system is sound.
 #[derive(Drop)]
-pub struct Machine {
+pub(crate) struct Machine {
     image: [u8; IMAGE],
     ghost sound: { sound_system (system_in image) ≡ true },
 }
@@ -48,7 +48,7 @@ impl Machine {
     ghost use Rattle.run.specs.Output.{line_done, printed_from, tallied_from, Done};
 
     // The fresh system of n processes, 1 to 8.
-    pub fn fresh(n: u8) -> Machine
+    pub(crate) fn fresh(n: u8) -> Machine
         requires { is_one_of 8 n ≡ true }
         ensures { system_in result.image ≡ fresh_system n }
     {
@@ -75,7 +75,8 @@ impl Machine {
         }
     }
 
-    // A step, and what is printed for it. What it counts is told where that is asked for.
+    // A step, and what is printed for it. What it counts is told where that is asked for. `counting` is a value: of a
+    // const parameter, which was tried, the proofs know only the number behind it.
     fn step(&mut self, page: &mut Page, number: usize, o: Step, counting: bool) -> Tally
         ensures { Done counting (line_done number (system_in self.old.image) (Ok (DoStep o))) page.old page.new (system_in self.new.image) result }
     {
@@ -118,7 +119,7 @@ impl Machine {
     }
 
     // The lines that are left of a sheet, and then the line of each process.
-    pub fn run_lines(mut self, lines: SheetReader, page: &mut Page, counting: bool) -> Tally
+    pub(crate) fn run_lines(mut self, lines: SheetReader, page: &mut Page, counting: bool) -> Tally
         requires { length lines.sheet.now ≤ 60000 }
         ensures printed { page.new ≡ typed_on page.old (printed_from 2 (system_in self.image) (lines_left lines.entry)) }
         ensures counted { counting ≡ true → result ≡ tallied_from 2 no_tally (system_in self.image) (lines_left lines.entry) }

@@ -10,7 +10,7 @@ ghost use Rattle.settle.specs.Settle.{Settles};
 
 use counting::attempt_tallied;
 use image::{blank_image, length_at, pending_at, size, variables_at};
-use plan::{Action, Cut, Step};
+use plan::{Action, Step};
 use system::System;
 use system::refusal::Refusal;
 use tallies::Tally;
@@ -105,11 +105,7 @@ impl<'a> Run<'a> {
         ensures { Advances (tried self.old.budget action) self.old self.new }
     {
         if self.steps < self.budget {
-            let step = Step {
-                action,
-                cut: Cut::Whole,
-            };
-            if let Ok(tally) = attempt_tallied(self.image, step) {
+            if let Ok(tally) = attempt_tallied(self.image, Step::whole(action)) {
                 self.steps += 1;
                 self.tally += tally;
             }
@@ -141,7 +137,7 @@ impl<'a> Run<'a> {
         self.half_round(Half::Answers);
     }
 
-    // Rounds, until one does nothing.
+    // Rounds, until one does nothing: no count says how many those are.
     fn rounds(&mut self)
         ensures { Advances (rounds_done (suc self.old.budget) self.old.budget self.old.n) self.old self.new }
     {

@@ -165,11 +165,7 @@ fn parse_crash(l: &[u8]) -> Result<Line, BadFrom>
     ensures { result ≡ parsed l.now }
 {
     fits(b" P", l, 1)?;
-    let action = Action::Crash(process_at(l, 2));
-    Ok(Line::Step(Step {
-        action,
-        cut: Cut::Whole,
-    }))
+    Ok(Line::Step(Step::whole(Action::Crash(process_at(l, 2)))))
 }
 
 // What a line after the first says: its first byte chooses the form.

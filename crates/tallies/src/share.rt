@@ -11,7 +11,7 @@ pub struct Share {
     pub proposals: u64,
 }
 
-// The greatest common divisor.
+// The greatest common divisor: std has none. Euclid's rule counts nothing, and ends when nothing is left.
 fn divisor(a: u64, b: u64) -> u64
     ensures { result ≡ gcd a b }
 {
