@@ -8,12 +8,12 @@ use Rattle.settle.proofs.Run.try_one.Goals as goal
 
 pub returns-in-Ok : goal.returns-in-Ok
 returns-in-Ok c =
-    one_done c.args.action _ _ c.if-self.true _ c.in-Ok.ensures.step refl refl refl refl refl
-    (c.add_assign.ensures.after ∙ ap (λ t. capped (plus c.args.self.now.tally t)) c.in-Ok.ensures.tally)
+    one_done c.args.action _ _ c.if-self.true _ (rw c.whole.ensures at c.in-Ok.ensures.step) refl refl refl refl refl
+    (c.add_assign.ensures.after ∙ ap (λ t. capped (plus c.args.self.now.tally t)) (rw c.whole.ensures at c.in-Ok.ensures.tally))
 
 pub returns-in_default : goal.returns-in_default
 returns-in_default c =
-    one_refused c.args.action _ _ c.if-self.true _ c.in_default.ensures.step refl refl refl (eqb-false _ _ (some_number c.in_default.field-0)) refl refl
+    one_refused c.args.action _ _ c.if-self.true _ (rw c.whole.ensures at c.in_default.ensures.step) refl refl refl (eqb-false _ _ (some_number c.in_default.field-0)) refl refl
 
 pub returns-else-self : goal.returns-else-self
 returns-else-self c = spent _ _ c.if-self.false
