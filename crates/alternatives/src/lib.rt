@@ -1,6 +1,7 @@
 // What is done once an alternative of Figure 3 is chosen, on the image that the caller lends: a function for
 // each, but one for the two takes that send. The cut, and the room for what is sent, may still refuse it.
-// Internal to the engine: nothing is tested that the engine has tested before.
+// Internal to the engine: nothing is tested that the engine has tested before. The takes that send nothing begin alike, by two
+// calls: a third function for the two would want a promise as long as theirs.
 #![tactic(auto)]
 
 ghost use Rattle.std.specs.Prelude.{◌≡◌, None, Some};

@@ -5,8 +5,8 @@
 use input::{Failure, OUTPUT_ROOM, SHEET_ROOM, read_to_end, zeros};
 use std::io::Read;
 
-// Reads a sheet, runs it and writes all that is printed for it. Program `runs` has five such lines: one function of
-// both would take the buffers, their rooms, the words and the function between, and be called twice.
+// Reads a sheet, runs it and writes all that is printed for it. Program `runs` has five such lines: one function for both would
+// take two rooms, a word and the function between, to be called in two places.
 fn run_sheet(stdin: &mut impl Read, rt: &impl Print) -> Result<(), Failure> {
     let mut sheet = zeros::<SHEET_ROOM>();
     let len = read_to_end(stdin, &mut sheet).map_err(|_| Failure::Unread("sheet"))?;

@@ -1,5 +1,6 @@
 // The static library for programs in C and other languages: each function of crate capi, exported
-// with its name and its clauses. The header include/lobstercreel.h declares them for C.
+// with its name and its clauses. The header include/lobstercreel.h declares them for C. Twins of crate capi: no crate can stand on
+// a static library, and the theorems of crate calls speak of capi's.
 #![tactic(auto)]
 
 ghost use Rattle.plan.specs.declared.Action.{Action};

@@ -7,7 +7,8 @@ ghost use Rattle.channel.specs.Channel.{empty_channel};
 
 use view::GroupIndex;
 
-// Figure 3's four kinds of message. A view is one byte.
+// Figure 3's four kinds of message, with a view and an index as it writes them: as one struct the two would be taken apart at
+// each match.
 #[derive(Clone, Copy, PartialEq, Eq)]
 pub enum Message {
     Propose(u8, GroupIndex),

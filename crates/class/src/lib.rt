@@ -79,13 +79,6 @@ fn put_line(page: &mut Page, name: &[u8], finding: Result<Tally, Uncounted>)
     page.byte(b'\n');
 }
 
-// Room for the line of a name.
-pub fn line_buffer() -> [u8; LINE_LIMIT]
-    ensures { length result ≡ LINE_LIMIT }
-{
-    [0; LINE_LIMIT]
-}
-
 // The line of a name, printed into a buffer that has room for it: it is the buffer's first bytes, as
 // many as the answer says, and the others stay.
 fn print_line(name: &[u8], finding: Result<Tally, Uncounted>, out: &mut [u8; LINE_LIMIT]) -> usize

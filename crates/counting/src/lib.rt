@@ -105,7 +105,7 @@ fn plan_counts(c: Scope, a: Plan, before: GroupIndex, lost: u64) -> Tally
         sent: u64::from(count(a.addressees)),
         taken: u64::from(c.takes),
         lost,
-        proposals: u64::from(before.0 < after.0),
+        proposals: u64::from(before < after),
         committed: u64::from(is_commit(a.message) & (a.addressees != 0)),
         ..Tally::default()
     }

@@ -1,5 +1,6 @@
 // The plan of a step, by value: the definitions' own form of what an alternative does, for whoever asks
-// what a step would do.
+// what a step would do. The engine makes the same choices and does them at once: with a plan between, a list of steps takes
+// twice the instructions (docs/DECISIONS.md). What goes to nobody is the blank message, as in the definitions.
 ghost use Rattle.std.specs.Prelude.{ℕ, ◌≡◌, Ok};
 ghost use Rattle.view.specs.View.{minus, everyone};
 ghost use Rattle.plan.specs.Plan.{assigning, recording, entering, sending, quietly, doubting, report_plan, receive_plan, respond_plan, crash_plan};

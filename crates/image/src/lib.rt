@@ -1,6 +1,7 @@
 // The image of a system: the bytes in which it is kept. Each function reads or replaces one part, and
 // promises what that is at the system that the bytes hold. All are total: where the bytes have another
-// length, or there is no part of that number, a blank is read and nothing is changed.
+// length, or there is no part of that number, a blank is read and nothing is changed. An image is a slice, and no array or struct
+// with methods: C lends bytes of any length, and each step takes them as they come.
 #![tactic(auto)]
 
 ghost use Rattle.std.specs.Prelude.{◌≡◌, [], ◌∷◌, ◌+◌, ◌≤◌, length, take, drop, replicate, IfSome, option_map};

@@ -29,7 +29,7 @@ fn cut_of(byte: u8) -> Cut
     }
 }
 
-// What the four bytes of an order say.
+// What the four bytes of an order say. No `TryFrom`: the type is crate plan's, which knows nothing of such bytes.
 #[tactic(auto, unfolding(crate::specs::List::order_of, view::specs::Logic::pick))]
 fn step_of(kind: u8, x: u8, y: u8, last: u8) -> Result<Step, Refusal>
     ensures { result ≡ order_of kind x y (cut_of last) }

@@ -87,7 +87,8 @@ fn moves_at(n: u8) -> u8
     everyone(n) + 1
 }
 
-// Its move at place k. Nested loops are no plainer: by places both turns are one loop, under one law.
+// Its move at place k. Nested loops are no plainer: they would try and add up in two places of a turn, and the processes' turn in
+// four.
 #[tactic(auto, unfolding(crate::specs::Walks::link_move_at, view::specs::Logic::pick))]
 fn link_move(each: u8, k: u8) -> Action
     requires { (2 ≤ each) × (each ≤ 4) × (k < 8) }

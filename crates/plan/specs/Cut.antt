@@ -1,6 +1,6 @@
 -- A step is an action, whole or cut. S-2: "Mains also fails inside a step, after the third message of five."
 use Rattle.std.specs.Prelude.{ℕ, true, false, Result, Ok, Err, ltb, eqb}
-use Rattle.view.specs.Logic.{pick, unless}
+use Rattle.view.specs.Logic.{unless}
 use Rattle.view.specs.View.{count_of, first_members}
 use Rattle.plan.specs.declared.Action.{Action}
 use Rattle.plan.specs.declared.Cut.{Cut}

@@ -67,7 +67,7 @@ impl Step {
     }
 }
 
-// Whom an action names.
+// Whom an action names. The partner has a field of its own: refusal 2 asks of it where nothing is taken, too.
 #[derive(Clone, Copy)]
 pub struct Scope {
     // The process that acts.
@@ -103,8 +103,8 @@ impl Scope {
 }
 
 // What becomes of the acting process: its variables; what it has recorded from the proposer, where
-// that is not 0; its history's entry at the index, where that is not 0. No Options: what is put at number 0 changes
-// nothing, whatever the table, so that one equation says each change, and not one for each case.
+// that is not 0; its history's entry at the index, where that is not 0. The definitions' own record, which counting's
+// functions promise. No Options in it: what is put at number 0 changes nothing in any table, so that a case more says nothing more.
 #[derive(Clone, Copy)]
 pub struct Change {
     pub variables: Variables,
@@ -318,7 +318,7 @@ pub fn respond_choice(x: Variables, pending: Option<Proposal>) -> Result<Reply, 
     let next = x.next;
     if view != x.view {
         Err(Refusal::OtherView)
-    } else if index.0 < next.0 {
+    } else if index < next {
         Ok(Reply {
             next,
             message: Message::Retry(index, next),

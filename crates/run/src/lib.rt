@@ -49,7 +49,7 @@ fn run_whole(sheet: &[u8], page: &mut Page, counting: bool) -> Tally
     ensures counted { counting ≡ true → result ≡ sheet_tally sheet.now }
 {
     if SHEET_LIMIT < sheet.len() {
-        page.text(b"0 9\n");
+        page.numbered(0, u8::from(Refusal::LongSheet));
         return Tally::default();
     }
     let mut lines = SheetReader::new(sheet);

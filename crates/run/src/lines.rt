@@ -76,7 +76,8 @@ impl Machine {
     }
 
     // A step, and what is printed for it. What it counts is told where that is asked for. `counting` is a value: of a
-    // const parameter, which was tried, the proofs know only the number behind it.
+    // const parameter, which was tried, the proofs know only the number behind it; and a lent `Option<&mut Tally>` would be
+    // asked for at the same places, and lent on at each line.
     fn step(&mut self, page: &mut Page, number: usize, o: Step, counting: bool) -> Tally
         ensures { Done counting (line_done number (system_in self.old.image) (Ok (DoStep o))) page.old page.new (system_in self.new.image) result }
     {

@@ -11,7 +11,7 @@ const LINE_ROOM: usize = 5;
 // Room for what is printed for any line.
 const OUTPUT_ROOM: usize = 42;
 
-// Reads a line, does the walk that it asks for and writes all that is printed for it.
+// Reads a line, does the walk that it asks for and writes all that is printed for it. Program `bench` says why this stands in both.
 fn run_line(stdin: &mut impl Read, rt: &impl Print) -> Result<(), Failure> {
     let mut line = [0; LINE_ROOM];
     let len = read_to_end(stdin, &mut line).map_err(|_| Failure::Unread("input"))?;

@@ -71,6 +71,7 @@ pub record Cut (s : List ℕ) (at : ℕ) (line : Span) : Type 0 where
   pub lines : lines_of (drop at s) ≡ take (line.end - line.start) (drop line.start s) ∷ lines_of (drop line.next s)
   pub ordered : line.start ≤ line.end
   pub within : line.end ≤ length s
+  pub next : line.next ≡ next_place s at
 
 line_here : (s : List ℕ) (at : ℕ) → at < length s → line_at s at ≡ Some (span at (at + line_length (drop at s)) (at + line_length (drop at s) + 1))
 unfolding line_at line_between next_place pick
@@ -83,11 +84,13 @@ unfolding line_at line_between next_place pick
 none_here s at h = rw (le-ltb at (length s) h, le-ltb at at (omega arith))
 
 cut_here : (s : List ℕ) (at : ℕ) → at < length s → Cut s at (span at (at + line_length (drop at s)) (at + line_length (drop at s) + 1))
+unfolding next_place pick
 cut_here s at h =
     record {
       lines = rw (add-sub_cancel_left, add_assoc, ← drop-drop, add-one) (first_line_lem (drop at s) (omega (arith, length-drop at s)));
       ordered = omega arith;
       within = line_within s at (omega arith);
+      next = rw (lt-ltb at (length s) h);
     }
 
 pub line_found : (s : List ℕ) (at : ℕ) (line : Span) → line_at s at ≡ Some line → Cut s at line
@@ -112,6 +115,13 @@ none_found s at e =
     by_test (ltb at (length s))
     (λ here. let some = line_here s at (ltb-true at (length s) here) in cc)
     (λ past. rw (drop_of_length-le s (ltb-false at (length s) past)))
+
+pub none_next : (s : List ℕ) (at : ℕ) → line_at s at ≡ None → at ≡ next_place s at
+unfolding next_place pick
+none_next s at e =
+    by_test (ltb at (length s))
+    (λ here. let some = line_here s at (ltb-true at (length s) here) in cc)
+    (λ past. rw past)
 
 -- the lines' bytes, each with a line feed
 unfoldable pub weight : List (List ℕ) → ℕ

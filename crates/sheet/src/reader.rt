@@ -57,7 +57,7 @@ impl<'a> Iterator for SheetReader<'a> {
 
     ghost remaining = { item_count lines_left };
 
-    #[tactic(auto, using(crate::proofs::Laws::line_found, crate::proofs::Laws::none_found))]
+    #[tactic(auto, using(crate::proofs::Laws::line_found, crate::proofs::Laws::none_found, crate::proofs::Laws::none_next))]
     fn next(&mut self) -> Option<&'a [u8]> {
         let line = self.current()?;
         self.at = line.next;

@@ -7,7 +7,7 @@ ghost use Rattle.input.specs.declared.TheConstants.{CHUNK_ROOM};
 ghost use Rattle.input.specs.Received.{IsPrefixLen, read_len};
 
 use class::names::gather;
-use class::{NAME_LIMIT, line_buffer, print_all, print_name};
+use class::{LINE_LIMIT, NAME_LIMIT, print_all, print_name};
 use input::{CHUNK_ROOM, Failure, ReadFailed, SHEET_ROOM, read_file, zeros};
 use print::Page;
 use std::io::Read;
@@ -25,7 +25,7 @@ const NAME_ROOM: usize = NAME_LIMIT + 1;
 
 // The names, one to a line, as a reader gives them. The chunk's bytes from `at` up to `have` come next,
 // and then what the reader has left, unless its input has ended.
-// Tried std's buffered input: it reads a pipe byte by byte, so a long name takes too many reads.
+// `at`, `have` and `ended` by hand: std's buffered input takes its buffer from the heap, and no program here has one.
 #[derive(Drop)]
 struct Names<R> {
     reader: R,
@@ -118,7 +118,7 @@ fn tally_name(rt: &(impl Files + Print), total: Tally, name: &[u8]) -> Result<Ta
         Ok(len) => Some(&room[..len]),
         Err(_) => None,
     };
-    let mut out = line_buffer();
+    let mut out = zeros::<LINE_LIMIT>();
     let line = print_name(total, name, sheet, &mut out);
     rt.write_all(&out[..line.end])
         .map_err(|_| Failure::Unwritten)?;
@@ -134,7 +134,7 @@ fn tally_class(names: &mut Names<impl Read>, rt: &(impl Files + Print)) -> Resul
         };
         total = tally_name(rt, total, name)?;
     }
-    let mut out = line_buffer();
+    let mut out = zeros::<LINE_LIMIT>();
     let end = print_all(total, &mut out);
     rt.write_all(&out[..end]).map_err(|_| Failure::Unwritten)
 }

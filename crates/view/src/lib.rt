@@ -1,4 +1,5 @@
-// Views: sets of up to eight processes, kept as one byte. Document 01 calls a process a unit.
+// Views: sets of up to eight processes, kept as one byte. Document 01 calls a process a unit. A view is a plain byte, and no struct
+// with methods: images, lists and calls from C hold any byte, and the functions here take each.
 #![tactic(auto)]
 
 ghost use Rattle.std.specs.Prelude.{◌≡◌, ◌<◌, ◌&&◌, ◌||◌, IfSome};
@@ -11,7 +12,7 @@ ghost use Rattle.view.specs.View.{has, within, subset, with, minus, switched, ev
 pub struct ProcessId(pub u8);
 
 // A position in the history (the paper's group index), counted from 1.
-#[derive(Clone, Copy, PartialEq, Eq)]
+#[derive(Clone, Copy, PartialEq, Eq, PartialOrd, Ord)]
 pub struct GroupIndex(pub u8);
 
 // One of n processes.
@@ -91,7 +92,8 @@ pub fn everyone(n: u8) -> u8
     if 8 <= n { 255 } else { (1 << n) - 1 }
 }
 
-// The least process of a view, 0 for the empty view: one more than the zeros below its lowest one.
+// The least process of a view, 0 for the empty view: one more than the zeros below its lowest one. No Option: a report or a
+// Retry asks whether p is the least, and of the empty view it is none, be p 0 or not.
 pub fn least(view: u8) -> ProcessId
     ensures { result ≡ least_of view }
 {

@@ -1,16 +1,18 @@
 -- `run::run_whole`: by how the sheet begins.
 use Rattle.std.proofs.Common.{sym, ◌∙◌}
-use Rattle.print.specs.Text.{bytes}
+use Rattle.view.specs.Logic.{pick}
+use Rattle.print.specs.Text.{bytes, digits, decimal}
+use Rattle.print.specs.Print.{numbered_line}
 use Rattle.print.proofs.Typing.{typed_on_nil}
 use Rattle.run.specs.Output.{tallied_by, started_by}
 use Rattle.run.proofs.Laws.{nothing_yet, output_long, output_none, output-begins, tally_long, tally_none, tally_begins, started_size}
 use Rattle.run.proofs.run_whole.Goals as goal
 
 pub returns-then-sheet-gt-SHEET_LIMIT : goal.returns-then-sheet-gt-SHEET_LIMIT
-unfolding bytes
+unfolding bytes numbered_line digits decimal pick
 returns-then-sheet-gt-SHEET_LIMIT c =
     let long = c.if-sheet-gt-SHEET_LIMIT.true in
-    record { printed = rw (output_long _ long) c.text.ensures; counted = λ on. nothing_yet c.default.result c.default.ensures ∙ sym (tally_long _ long) }
+    record { printed = rw (output_long _ long) (rw c.from.ensures at c.numbered.ensures); counted = λ on. nothing_yet c.default.result c.default.ensures ∙ sym (tally_long _ long) }
 
 pub returns-in_default : goal.returns-in_default
 returns-in_default c =
