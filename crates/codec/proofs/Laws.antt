@@ -1,121 +1,123 @@
--- Laws of rows of bytes: how a loop over them reads or writes one more.
-use Rattle.std.proofs.Common.{ℕ, zero, suc, ◌+◌, ◌*◌, ◌≤◌, ◌<◌, ◌≡◌, refl, sym, ◌∙◌, ap, subst, List, [], ◌∷◌, ◌++◌, append_assoc, append-nil, add_comm, add-zero, mul-suc, mul-zero, le_of_eq, add-one, arith, length, get_or, take, drop, set, replicate, length-set, take-append-drop, take-suc, take-suc-set, take_all, drop-drop, ext_get_or}
+-- Laws of rows of bytes: how an array made row by row is what they hold, and how a loop reads one more.
+use Rattle.std.proofs.Common.{ℕ, zero, suc, ◌+◌, ◌*◌, ◌≤◌, ◌<◌, ◌≡◌, refl, sym, ◌∙◌, ap, subst, List, [], ◌∷◌, ◌++◌, map, le_of_eq, arith, length, length-append, length-drop, length-take-le, get_or, take, drop, set, replicate, length-set, take-suc-set, take_all, take_at, ext_get_or, get_or-take, Option, Some}
+use Rattle.std.proofs.lemmas.List.{length-map, get_or-map}
+use Rattle.std.proofs.lemmas.Slice.{take-put_mid}
+use borrow.Rule.Slice.PartMut.{put_mid}
 use Rattle.std.specs.Fn.{Called}
-use Rattle.std.specs.Array.{IsFromFnResultFrom, IsFromFnResult}
+use Rattle.std.specs.Option.{MatchOption}
+use Rattle.std.specs.Array.{IsFirstChunk, IsFromFnResultFrom, IsFromFnResult}
+use Rattle.std.specs.Simd.{first_chunks}
+use Rattle.std.specs.List.{flat_map}
+use denote.Ref.{Bor}
 use denote.Param.Members.{Mut}
 use Rattle.view.specs.Logic.{pick}
 use Rattle.view.proofs.Laws.{by_number}
 use Rattle.channel.specs.Channel.{empty_channel}
 use Rattle.image.specs.Image.{channel_width, concatenated, rows, byte, message_of, slot_in, channel_in}
-use Rattle.image.proofs.Laws.{row_read, rows_long}
-use Rattle.codec.specs.Put.{Put}
+use Rattle.image.proofs.Laws.{Local, of_taken, rows_local}
+use Rattle.image.proofs.Parts.{byte_local}
 
 -- ---- zeros
-zeros_read : (b : List ℕ) → channel_in (replicate channel_width 0 ++ b) ≡ empty_channel
+zeros_read : channel_in (replicate channel_width 0) ≡ empty_channel
 unfolding channel_in empty_channel rows slot_in message_of pick
-zeros_read b = refl
+zeros_read = refl
 
-pub channel_of_zeros : (b : List ℕ) → take channel_width b ≡ replicate channel_width 0 → channel_in b ≡ empty_channel
-channel_of_zeros b e =
-    ap channel_in (sym (take-append-drop channel_width b) ∙ ap (λ (l : List ℕ). l ++ drop channel_width b) e) ∙ zeros_read (drop channel_width b)
+pub channel_of_zeros : (b : List ℕ) → b ≡ replicate channel_width 0 → channel_in b ≡ empty_channel
+channel_of_zeros b e = ap channel_in e ∙ zeros_read
+
+-- ---- an array that a loop makes: the first i of n elements of l are what f gives of those of xs
+pub record Made {X A : Type 0} (n : ℕ) (f : X → A) (xs : List X) (l : List A) (i : ℕ) : Type 0 where
+  pub long : length l ≡ n
+  pub so_far : take i l ≡ map f (take i xs)
+
+module _ {X A : Type 0} {n : ℕ} {f : X → A} {xs : List X} {l : List A} where
+  pub all_made : {i : ℕ} → Made n f xs l i → i ≡ n → length xs ≡ n → l ≡ map f xs
+  all_made {i} r end long = sym (take_all n l (le_of_eq r.long)) ∙ (rw (end, take_all n xs (le_of_eq long)) at r.so_far)
+
+-- ---- an array that a function of the index made
+-- l is what h gives of each element of xs
+module _ {F X A : Type 0} (g : Mut F (ℕ × Unit {0}) A) (f : F) (l : List A) (h : X → A) (xs : List X) (d : X)
+    (made : (i : ℕ) (x : A) (q : F) → Called g f (i, tt) x q → (q ≡ f) × (x ≡ h (get_or xs i d))) where
+  made_from : (n i : ℕ) (p : F) → p ≡ f → IsFromFnResultFrom g p l i n → (k : ℕ) (e : A) → i ≤ k → k < i + n → get_or l k e ≡ h (get_or xs k d)
+  made_from zero i p same all k e low high = absurd (omega arith)
+  made_from (suc n) i p same all k e low high =
+      let this = made i all.1 all.0 (subst (λ (r : F). Called g r (i, tt) all.1 all.0) same all.3) in
+      by_number k i
+      (λ here. rw here (all.2.1 e ∙ this.1))
+      (λ other. made_from n (i + 1) all.0 this.0 all.4 k e (omega (arith, other)) (omega arith))
+
+  pub made_of : (n : ℕ) → IsFromFnResult g f l n → length xs ≡ n → l ≡ map h xs
+  made_of n all long =
+      ext_get_or (h d) l (map h xs) (all.long ∙ sym (length-map xs h ∙ long))
+      (λ k u. made_from n 0 f refl all.each k (h d) (omega arith) (omega (arith, all.long)) ∙ sym (get_or-map h xs k d (h d) (omega (arith, all.long))))
 
 -- ---- rows that are read
--- l is what a function of the index made, which gives the rows of w bytes from a place on
-module _ {F A : Type 0} (g : Mut F (ℕ × Unit {0}) A) (f : F) (l : List A) (h : ℕ → A)
-    (made : (i : ℕ) (x : A) (q : F) → Called g f (i, tt) x q → (q ≡ f) × (x ≡ h i)) where
-  made_from : (n i : ℕ) (p : F) → p ≡ f → IsFromFnResultFrom g p l i n → (k : ℕ) (d : A) → i ≤ k → k < i + n → get_or l k d ≡ h k
-  made_from zero i p same e k d low high = absurd (omega arith)
-  made_from (suc n) i p same e k d low high =
-      let this = made i e.1 e.0 (subst (λ (r : F). Called g r (i, tt) e.1 e.0) same e.3) in
-      by_number k i
-      (λ here. rw here (e.2.1 d ∙ this.1))
-      (λ other. made_from n (i + 1) e.0 this.0 e.4 k d (omega (arith, other)) (omega arith))
+length-chunks : (w n : ℕ) (b : List ℕ) → length (first_chunks w n b) ≡ n
+length-chunks w zero b = refl
+length-chunks w (suc n) b = ap suc (length-chunks w n (drop w b))
 
-  pub rows_made : (n w at : ℕ) (read : List ℕ → A) (b : List ℕ) (d : A) → IsFromFnResult g f l n → ((i : ℕ) → h i ≡ read (drop (at + w * i) b))
-      → l ≡ rows n w read (drop at b)
-  rows_made n w at read b d all is =
-      ext_get_or d l (rows n w read (drop at b)) (all.long ∙ sym (rows_long n w read (drop at b)))
-      (λ k u.
-      made_from n 0 f refl all.each k d (omega arith) (omega (arith, all.long))
-      ∙ is k
-      ∙ ap read (sym (drop-drop (w * k) at b))
-      ∙ sym (row_read read w n k (drop at b) d (omega (arith, all.long))))
+module _ {A : Type 0} {f : List ℕ → A} {w : ℕ} (local : Local w f) where
+  chunks_read : (n : ℕ) (b : List ℕ) → map f (first_chunks w n b) ≡ rows n w f b
+  unfolding rows
+  chunks_read zero b = refl
+  chunks_read (suc n) b = rw (of_taken local b, chunks_read n (drop w b))
+
+  -- n rows of bytes b, cut into chunks
+  pub rows_read : {chunks : List (List ℕ)} {k : ℕ} (n : ℕ) (b : List ℕ) → chunks ≡ first_chunks w k (take (w * n) b) → k ≡ n → map f chunks ≡ rows n w f b
+  rows_read n b cut count = rw (cut, count) (chunks_read n (take (w * n) b)) ∙ of_taken (rows_local f w local n) b
+
+  -- an array that is made of them
+  pub rows_made : {F : Type 0} {g : Mut F (ℕ × Unit {0}) A} {p : F} {l : List A} {chunks : List (List ℕ)} {k : ℕ} (n : ℕ) (b : List ℕ) → IsFromFnResult g p l n
+      → ((i : ℕ) (x : A) (q : F) → Called g p (i, tt) x q → (q ≡ p) × (x ≡ f (get_or chunks i [])))
+      → chunks ≡ first_chunks w k (take (w * n) b) → k ≡ n → l ≡ rows n w f b
+  rows_made {g = g} {p = p} {l = l} {chunks = chunks} n b all made cut count =
+      made_of g p l f chunks [] made n all (ap length cut ∙ length-chunks w _ _ ∙ count) ∙ rows_read n b cut count
 
 -- bytes are rows of one
-pub bytes_rows : (n : ℕ) (b : List ℕ) → n ≤ length b → take n b ≡ rows n 1 (byte 0) b
+bytes_rows : (n : ℕ) (b : List ℕ) → n ≤ length b → take n b ≡ rows n 1 (byte 0) b
 unfolding rows
 bytes_rows zero b h = refl
 bytes_rows (suc n) [] h = absurd (omega arith)
 bytes_rows (suc n) (x ∷ b) h = ap (λ (l : List ℕ). x ∷ l) (bytes_rows n b (omega arith))
 
--- the first i of n elements of l are read, from rows of w bytes that begin at a place
-pub record Read {A : Type 0} (n w at : ℕ) (f : List ℕ → A) (b : List ℕ) (l : List A) (i : ℕ) : Type 0 where
-  pub long : length l ≡ n
-  pub so_far : take i l ≡ rows i w f (drop at b)
-
-one_more : {A : Type 0} (i w : ℕ) (f : List ℕ → A) (b : List ℕ) → rows (suc i) w f b ≡ rows i w f b ++ (f (drop (w * i) b) ∷ [])
-unfolding rows
-one_more zero w f b = rw (mul-zero w)
-one_more (suc i) w f b = rw (one_more i w f (drop w b), drop-drop (w * i) w b, mul-suc w i, add_comm (w * i) w)
-
-module _ {A : Type 0} {n w at : ℕ} {f : List ℕ → A} {b : List ℕ} {l : List A} where
-  pub none_read : length l ≡ n → Read n w at f b l 0
-  unfolding rows
-  none_read long = record { long = long; so_far = refl }
-
-  pub read_more : {i : ℕ} {x : A} → Read n w at f b l i → x ≡ f (drop (at + w * i) b) → i < n → Read n w at f b (set l i x) (i + 1)
-  read_more {i} {x} r this h =
-      record {
-        long = length-set l i x ∙ r.long;
-        so_far = rw (add-one i, take-suc-set l i x (omega (arith, r.long)), one_more i w f (drop at b), ← r.so_far, this, drop-drop (w * i) at b);
-      }
-
-  pub all_read : {i : ℕ} → Read n w at f b l i → i ≡ n → l ≡ rows n w f (drop at b)
-  all_read {i} r end = sym (take_all n l (le_of_eq r.long)) ∙ (rw end at r.so_far)
+-- the first n of m bytes
+pub bytes_made : {n : ℕ} {r : Option (Bor (List ℕ))} {x : Bor (List ℕ)} (P : Type 0) (m : ℕ) (b : List ℕ) → MatchOption r P (λ y. IsFirstChunk (take m b) y.now n)
+    → r ≡ Some x → n ≤ m → x.now ≡ rows n 1 (byte 0) b
+bytes_made {n = n} {x = x} P m b chunk some fits =
+    let first : IsFirstChunk (take m b) x.now n = rw some at chunk in
+    first.same ∙ bytes_rows n (take m b) first.enough ∙ rows_local (byte 0) 1 byte_local n b (take m b) (λ k l. get_or-take m b k 0 (omega arith))
 
 -- ---- rows that are written
--- bytes, and more of them from the place on where they ended
-pub and_then : {a b c s t : List ℕ} {n m k l : ℕ} (to : ℕ) → Put a n s b m → Put b k t c l → m ≡ k → l ≡ to → Put a n (s ++ t) c to
-and_then {a} {b} {c} {s} {t} {n} to p q here there =
-    record { held = rw (← there, q.held, ← here, p.held) (append_assoc (take n a) s t) }
-
-pub one-put : (b : List ℕ) (n x : ℕ) → n < length b → Put b n (x ∷ []) (set b n x) (n + 1)
-one-put b n x h = record { held = rw (add-one n) (take-suc-set b n x h) }
-
-concatenated-append : {A : Type 0} (f : A → List ℕ) (xs ys : List A) → concatenated f (xs ++ ys) ≡ concatenated f xs ++ concatenated f ys
+flattened : {A : Type 0} (f : A → List ℕ) (xs : List A) → flat_map (λ b. b) (map f xs) ≡ concatenated f xs
 unfolding concatenated
-concatenated-append f [] ys = refl
-concatenated-append f (x ∷ xs) ys = rw (concatenated-append f xs ys, append_assoc)
+flattened f [] = refl
+flattened f (x ∷ xs) = ap (λ (b : List ℕ). f x ++ b) (flattened f xs)
 
-concatenated_more : {A : Type 0} (f : A → List ℕ) (l : List A) (i : ℕ) (d : A) → i < length l → concatenated f (take (i + 1) l) ≡ concatenated f (take i l) ++ f (get_or l i d)
-unfolding concatenated
-concatenated_more f l i d h = rw (add-one i, take-suc l i d h, concatenated-append f (take i l) (get_or l i d ∷ []), append-nil (f (get_or l i d)))
+-- the rows of xs that a loop made, one after the other
+pub rows_written : {A : Type 0} {n i : ℕ} {f : A → List ℕ} {xs : List A} {l : List (List ℕ)} → Made n f xs l i → i ≡ n → length xs ≡ n → flat_map (λ b. b) l ≡ concatenated f xs
+rows_written {f = f} {xs = xs} r end long = ap (flat_map (λ b. b)) (all_made r end long) ∙ flattened f xs
 
--- the first i elements of l are written, in rows of w bytes that begin at a place; a is what the bytes were before
-pub record Written {A : Type 0} (w at : ℕ) (f : A → List ℕ) (l : List A) (a b : List ℕ) (i : ℕ) : Type 0 where
-  pub room : length b ≡ length a
-  pub so_far : Put a at (concatenated f (take i l)) b (at + w * i)
+-- the first e of n bytes b are s
+pub record Begun (n : ℕ) (b : List ℕ) (e : ℕ) (s : List ℕ) : Type 0 where
+  pub long : length b ≡ n
+  pub held : take e b ≡ s
 
-module _ {A : Type 0} {w at : ℕ} {f : A → List ℕ} {l : List A} {a : List ℕ} where
-  pub none_written : Written w at f l a a 0
-  unfolding concatenated
-  none_written =
-      record {
-        room = refl;
-        so_far = record { held = rw (mul-zero w, add-zero at) (sym (append-nil (take at a))) };
-      }
+pub first_written : {n e : ℕ} {t x : List ℕ} (rest : List ℕ) → x ≡ t → length x ≡ e → e + length rest ≡ n → Begun n (x ++ rest) e t
+first_written {e = e} {x = x} rest same long all = record { long = rw (length-append, long) all; held = take_at x rest e long ∙ same }
 
-  pub write_more : {b c : List ℕ} {i k m : ℕ} (d : A) → Written w at f l a b i → Put b k (f (get_or l i d)) c m
-      → i < length l → length c ≡ length b → at + w * i ≡ k → m ≡ k + w → Written w at f l a c (i + 1)
-  write_more {i = i} d r this h same here there =
-      let next : w * (i + 1) ≡ w * i + w = rw (add-one i) (mul-suc w i) in
-      record {
-        room = same ∙ r.room;
-        so_far = rw (concatenated_more f l i d h) (and_then (at + w * (i + 1)) r.so_far this here (omega arith));
-      }
+pub one_written : {n : ℕ} (b : List ℕ) (x : ℕ) → length b ≡ n → 0 < n → Begun n (set b 0 x) 1 (x ∷ [])
+one_written b x long h = record { long = length-set b 0 x ∙ long; held = take-suc-set b 0 x (omega (arith, long)) }
 
-  pub all_written : {b : List ℕ} {i n : ℕ} → Written w at f l a b i → length l ≡ n → i ≡ n → Put a at (concatenated f l) b (at + w * n)
-  all_written {n = n} r long end = rw (end, take_all n l (le_of_eq long)) at r.so_far
+-- k bytes more are written from there on
+pub more_written : {n a e k : ℕ} {b s t x : List ℕ} → Begun n b a s → x ≡ t → length x ≡ k → a + k ≡ e → e ≤ n → Begun n (put_mid a k b x) e (s ++ t)
+more_written {a = a} {e = e} {k = k} {b = b} {x = x} p same long end room =
+    record {
+      long = rw (length-append, length-append, length-drop, length-drop, length-take-le a b (omega (arith, p.long))) (omega (arith, p.long));
+      held = take-put_mid a k b x e (omega arith) (omega (arith, p.long)) ∙ rw (p.held, same);
+    }
+
+pub all_written : {n : ℕ} {b s : List ℕ} → Begun n b n s → b ≡ s
+all_written {n} {b} p = sym (take_all n b (le_of_eq p.long)) ∙ p.held
 
 -- a byte is a row of one
 abbrev pub one_byte : ℕ → List ℕ

@@ -1,12 +1,10 @@
 // A whole system, between a value of type System and the image in which it is kept.
 #![tactic(auto)]
 
-ghost use Rattle.std.specs.Prelude.{◌≡◌, true, ◌+◌, ◌≤◌, eqb, length, take, drop};
+ghost use Rattle.std.specs.Prelude.{◌≡◌, eqb, length};
 ghost use Rattle.view.specs.Logic.{pick};
-ghost use Rattle.channel.specs.Channel.{empty_channel};
 ghost use Rattle.system.specs.Fresh.{fresh_system};
-ghost use Rattle.image.specs.Image.{channel_width, process_width, image_width, channel_bytes, process_bytes, encoded, channel_in, process_in, decoded};
-ghost use Rattle.codec.specs.Put.{Put};
+ghost use Rattle.image.specs.Image.{image_width, channel_bytes, process_bytes, encoded, channel_in, process_in, decoded};
 
 use channel::Channel;
 use image::{
@@ -16,47 +14,31 @@ use image::{
 use std::array;
 use system::{History, Process, System};
 
-// ---- from an image to the system: each function reads from a place on, where the image has all the
-// bytes that it reads
+// ---- from an image to the system: each function reads the bytes of one part
 
-// The N bytes there.
-fn bytes_at<const N: usize>(image: &[u8], at: usize) -> [u8; N]
-    requires { at + N ≤ length image.now }
-    ensures { result ≡ take N (drop at image.now) }
+fn read_channel(bytes: &[u8; CHANNEL]) -> Channel
+    ensures { result ≡ channel_in bytes.now }
 {
-    *image[at..].first_chunk().unwrap()
-}
-
-// Most channels are nothing but zeros, as in a fresh system.
-fn is_blank(image: &[u8], at: usize) -> bool
-    requires { at + channel_width ≤ length image.now }
-    ensures { result ≡ true → channel_in (drop at image.now) ≡ empty_channel }
-{
-    bytes_at(image, at) == [0; CHANNEL]
-}
-
-fn read_channel(image: &[u8], at: usize) -> Channel
-    requires { at + channel_width ≤ length image.now }
-    ensures { result ≡ channel_in (drop at image.now) }
-{
-    if is_blank(image, at) {
+    // Most channels are nothing but zeros, as in a fresh system.
+    if *bytes == [0; CHANNEL] {
         return Channel::empty();
     }
+    let (slots, _) = bytes[..LENGTH].as_chunks();
     Channel {
-        slots: array::from_fn(|i| message_of(bytes_at(image, at + MESSAGE * i))),
-        len: image[at + LENGTH],
+        slots: array::from_fn(|i| message_of(slots[i])),
+        len: bytes[LENGTH],
     }
 }
 
-fn read_process(image: &[u8], at: usize) -> Process
-    requires { at + process_width ≤ length image.now }
-    ensures { result ≡ process_in (drop at image.now) }
+fn read_process(bytes: &[u8; PROCESS]) -> Process
+    ensures { result ≡ process_in bytes.now }
 {
+    let (records, _) = bytes[RECORDS..HISTORY].as_chunks();
     Process {
-        variables: variables_of(bytes_at(image, at)),
-        pending: array::from_fn(|i| pending_of(bytes_at(image, at + RECORDS + RECORD * i))),
+        variables: variables_of(*bytes.first_chunk().unwrap()),
+        pending: array::from_fn(|i| pending_of(records[i])),
         history: History {
-            entries: bytes_at(image, at + HISTORY),
+            entries: *bytes[HISTORY..].first_chunk().unwrap(),
         },
     }
 }
@@ -68,49 +50,50 @@ pub fn decode(image: &[u8]) -> System
     if image.len() != IMAGE {
         return system::fresh(0).unwrap_or_else(|refused| refused.system);
     }
-    // A loop: with `from_fn` here each channel is copied once more, and a fresh system takes an eighth
+    let (process_rows, _) = image[PROCESSES..CHANNELS].as_chunks();
+    let (channel_rows, _) = image[CHANNELS..TRUST].as_chunks();
+    // A loop: with `from_fn` here each channel is copied once more, and a fresh system takes a tenth
     // more steps.
     let mut channels = [Channel::empty(); 64];
     for (i, channel) in channels.iter_mut().enumerate() {
-        *channel = read_channel(image, CHANNELS + CHANNEL * i);
+        *channel = read_channel(&channel_rows[i]);
     }
     System {
         n: image[0],
-        processes: array::from_fn(|i| read_process(image, PROCESSES + PROCESS * i)),
+        processes: array::from_fn(|i| read_process(&process_rows[i])),
         channels,
-        trust: bytes_at(image, TRUST),
+        trust: *image[TRUST..].first_chunk().unwrap(),
     }
 }
 
-// ---- from a system to its image: each function writes from a place on, where the image has room for
-// all that it writes, and leaves what stands before it
+// ---- from a system to its image: each function gives the bytes of one part. By loops: with `from_fn`
+// encoding takes an eighth more steps.
 
-fn put_bytes<const N: usize>(image: &mut [u8], at: usize, bytes: [u8; N])
-    requires { at + N ≤ length image.old }
-    ensures { Put image.old at bytes.entry image.new (at + N) }
+fn channel_bytes(c: Channel) -> [u8; CHANNEL]
+    ensures { result ≡ channel_bytes c }
 {
-    image[at..at + N].copy_from_slice(&bytes);
-}
-
-fn put_channel(image: &mut [u8], at: usize, c: Channel)
-    requires { at + channel_width ≤ length image.old }
-    ensures { Put image.old at (channel_bytes c) image.new (at + channel_width) }
-{
+    let mut slots = [[0; MESSAGE]; 8];
     for (i, message) in c.slots.iter().enumerate() {
-        put_bytes(image, at + MESSAGE * i, message_bytes(*message));
+        slots[i] = message_bytes(*message);
     }
-    image[at + LENGTH] = c.len;
+    let mut bytes = [0; CHANNEL];
+    bytes[..LENGTH].copy_from_slice(slots.as_flattened());
+    bytes[LENGTH] = c.len;
+    bytes
 }
 
-fn put_process(image: &mut [u8], at: usize, p: Process)
-    requires { at + process_width ≤ length image.old }
-    ensures { Put image.old at (process_bytes p) image.new (at + process_width) }
+fn process_bytes(p: Process) -> [u8; PROCESS]
+    ensures { result ≡ process_bytes p }
 {
-    put_bytes(image, at, variables_bytes(p.variables));
+    let mut records = [[0; RECORD]; 8];
     for (i, proposal) in p.pending.iter().enumerate() {
-        put_bytes(image, at + RECORDS + RECORD * i, pending_bytes(*proposal));
+        records[i] = pending_bytes(*proposal);
     }
-    put_bytes(image, at + HISTORY, p.history.entries);
+    let mut bytes = [0; PROCESS];
+    bytes[..RECORDS].copy_from_slice(&variables_bytes(p.variables));
+    bytes[RECORDS..HISTORY].copy_from_slice(records.as_flattened());
+    bytes[HISTORY..].copy_from_slice(&p.history.entries);
+    bytes
 }
 
 // The image of a system; bytes of another length stay as they are.
@@ -118,13 +101,17 @@ pub fn encode(s: System, image: &mut [u8])
     ensures { image.new ≡ pick (eqb (length image.old) image_width) (encoded s) image.old }
 {
     if image.len() == IMAGE {
-        image[0] = s.n;
+        let mut processes = [[0; PROCESS]; 8];
         for (i, process) in s.processes.iter().enumerate() {
-            put_process(image, PROCESSES + PROCESS * i, *process);
+            processes[i] = process_bytes(*process);
         }
+        let mut channels = [[0; CHANNEL]; 64];
         for (k, channel) in s.channels.iter().enumerate() {
-            put_channel(image, CHANNELS + CHANNEL * k, *channel);
+            channels[k] = channel_bytes(*channel);
         }
-        put_bytes(image, TRUST, s.trust);
+        image[0] = s.n;
+        image[PROCESSES..CHANNELS].copy_from_slice(processes.as_flattened());
+        image[CHANNELS..TRUST].copy_from_slice(channels.as_flattened());
+        image[TRUST..].copy_from_slice(&s.trust);
     }
 }

@@ -1,14 +1,14 @@
 -- `codec::decode`: by the length; then channel by channel.
-use Rattle.std.proofs.Common.{◌≡◌, ◌+◌, ◌*◌, Result, Ok, Err, rules, arith, eq-eqb, ne_eqb, refl, ◌∙◌, ap, ◌≤◌, length, drop, length-drop}
+use Rattle.std.proofs.Common.{◌≡◌, Result, Ok, Err, rules, arith, eq-eqb, ne_eqb, ◌∙◌, ap, drop}
 use Rattle.std.specs.Result.{MatchResult}
 use Rattle.view.specs.Logic.{pick}
 use Rattle.system.specs.declared.System.{System}
 use Rattle.system.specs.declared.Refused.{Refused}
 use Rattle.system.specs.Outcome.{Outcome, outcome_of}
-use Rattle.system.specs.System.{no_process}
 use Rattle.system.specs.Fresh.{fresh_system, fresh_of}
-use Rattle.image.specs.Image.{process_width, processes_place, process_in, trust_place, decoded}
-use Rattle.codec.proofs.Laws.{rows_made, bytes_rows, none_read, read_more, all_read}
+use Rattle.image.specs.Image.{processes_place, channels_place, trust_place, decoded}
+use Rattle.image.proofs.Parts.{process_local, channel_local}
+use Rattle.codec.proofs.Laws.{rows_made, rows_read, bytes_made, all_made}
 use Rattle.codec.proofs.decode.Goals as goal
 
 of_none : (r : Result System Refused) (s : System) (Q : Refused → Type 0) → outcome_of r ≡ fresh_of 0 → MatchResult r (λ t. s ≡ t) Q
@@ -21,22 +21,14 @@ pub returns-then-image-ne-IMAGE : goal.returns-then-image-ne-IMAGE
 unfolding pick
 returns-then-image-ne-IMAGE c = rw (ne_eqb _ _ c.if-image-ne-IMAGE.true) (of_none _ _ _ c.fresh.ensures c.unwrap_or_else.ensures (λ e k. search rules))
 
-pub loop-i-init : goal.loop-i-init
-loop-i-init c = none_read (search rules)
-
-pub loop-i-preserved : goal.loop-i-preserved
-loop-i-preserved c = read_more c.loop-i.invariant c.read_channel.ensures (omega arith)
-
 pub returns : goal.returns
 unfolding pick decoded
 returns c =
     let b = c.args.image.now in
-    let room : 8 ≤ length (drop trust_place b) = simp length-drop (omega arith) in
     rw (
       eq-eqb _ _ c.if-image-ne-IMAGE.false,
-      rows_made _ _ c.from_fn.result (λ i. process_in (drop (processes_place + process_width * i) b)) (λ i x q k. search rules)
-          8 process_width processes_place process_in b no_process c.from_fn.ensures.items (λ i. refl),
-      c.bytes_at.ensures,
-      bytes_rows 8 (drop trust_place b) room,
-      all_read c.loop-i.invariant (omega arith),
+      rows_made process_local 8 (drop processes_place b) c.from_fn.ensures.items (λ i x q k. search rules) c.as_chunks.ensures.front (omega arith),
+      all_made c.loop-i.invariant (omega arith) (omega arith),
+      rows_read channel_local 64 (drop channels_place b) c.as_chunks-2.ensures.front (omega arith),
+      bytes_made _ _ (drop trust_place b) c.first_chunk.ensures.cases c.unwrap.ensures (omega arith),
     )

@@ -1,2 +1,0 @@
--- What writing a part of an image promises.
-pub mod Put
