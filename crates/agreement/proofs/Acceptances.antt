@@ -1,20 +1,16 @@
 -- Laws of who has accepted what.
 use Prim.Native.Nat.{ℕ}
-use mathlib.Core.Path.{◌≡◌, refl, ◌∙◌, ap}
-use mathlib.Core.Bool.{Bool, true, false, ◌||◌}
+use mathlib.Core.Path.{◌≡◌, refl, sym, ◌∙◌, ap}
+use mathlib.Core.Bool.{Bool, true, ◌||◌, or_assoc}
 use mathlib.Core.List.{List, [], ◌∷◌, ◌++◌}
 use mathlib.Core.Logic.{◌⊎◌}
 use native.Mathlib.Omega.{arith}
 use Rattle.agreement.specs.Accepted.{Acceptance, accepted, is_this}
 
-or_assoc : (a b c : Bool) → (a || (b || c)) ≡ ((a || b) || c)
-or_assoc true b c = refl
-or_assoc false b c = refl
-
 append-accepted : (first rest : List Acceptance) (u v i : ℕ) → accepted (first ++ rest) u v i ≡ (accepted first u v i || accepted rest u v i)
 unfolding accepted
 append-accepted [] rest u v i = refl
-append-accepted (a ∷ first) rest u v i = ap (λ (t : Bool). is_this a u v i || t) (append-accepted first rest u v i) ∙ or_assoc (is_this a u v i) (accepted first u v i) (accepted rest u v i)
+append-accepted (a ∷ first) rest u v i = ap (λ (t : Bool). is_this a u v i || t) (append-accepted first rest u v i) ∙ sym (or_assoc (is_this a u v i) (accepted first u v i) (accepted rest u v i))
 
 -- what was accepted stays accepted
 pub still : (first rest : List Acceptance) (u v i : ℕ) → accepted first u v i ≡ true → accepted (first ++ rest) u v i ≡ true

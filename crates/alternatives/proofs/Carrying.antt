@@ -10,9 +10,8 @@ use Rattle.std.specs.Prelude.{Result, Ok, Err}
 use Rattle.std.specs.Result.{IsErrAnd}
 use Rattle.std.proofs.lemmas.Result.{err_from_is_err_and}
 use Rattle.view.specs.Logic.{pick, put}
-use Rattle.view.specs.View.{has}
 use Rattle.view.proofs.Laws.{by_test, each_same, all_intro, put_at}
-use Rattle.view.proofs.Sets.{has_none, count_none}
+use Rattle.view.proofs.Sets.{not_named, count_none}
 use Rattle.channel.specs.declared.Message.{Message}
 use Rattle.system.specs.declared.Process.{Process}
 use Rattle.system.specs.declared.System.{System}
@@ -35,20 +34,17 @@ use Rattle.image.specs.Image.{system_in}
 use Rattle.alternatives.specs.Gives.{Gives, with_room}
 
 -- ---- nobody is named
-nobody : (k : ℕ) → has 0 k ≡ false
-nobody k = by_test (has 0 k) (λ e. absurd (has_none k e)) (λ e. e)
-
 no_doubts : (s : System) (p : ℕ) → doubted s p 0 ≡ s
 unfolding doubted suspected_if_named with_trust pick
-no_doubts s p = ap (with_trust s) (each_same 8 (suspected_if_named s p 0) s.trust (λ k. rw (nobody k)))
+no_doubts s p = ap (with_trust s) (each_same 8 (suspected_if_named s p 0) s.trust (λ k. rw (not_named k)))
 
 no_broadcast : (s : System) (p : ℕ) (m : Message) → broadcasted s p 0 m ≡ s
 unfolding broadcasted sent_if_named pick
-no_broadcast s p m = each_same 8 (sent_if_named p 0 m) s (λ k. rw (nobody k))
+no_broadcast s p m = each_same 8 (sent_if_named p 0 m) s (λ k. rw (not_named k))
 
 room_enough : (s : System) (p : ℕ) → room_for s p 0 ≡ true
 unfolding room_for takes_if_named
-room_enough s p = all_intro 8 (takes_if_named s p 0) (λ k l h. rw (nobody k))
+room_enough s p = all_intro 8 (takes_if_named s p 0) (λ k l h. rw (not_named k))
 
 -- ---- a refusal
 pub some_number : (r : Refusal) → eqb (number r) 0 ≡ false

@@ -6,6 +6,7 @@ use mathlib.Core.Bool.{Bool, true, false, ◌&&◌, ◌||◌}
 use mathlib.Core.List.{List, [], ◌∷◌, ◌++◌}
 use native.Mathlib.Omega.{arith}
 use borrow.Author.Tests.{eqb-true, eqb-false, eq-eqb, ltb-true, ltb-false}
+use Rattle.std.proofs.lemmas.Bool.{or_parts}
 use lib.Dec.{eqb, ltb}
 use lib.ListN.{length, length-append}
 use Rattle.view.specs.Logic.{pick}
@@ -19,11 +20,10 @@ use Rattle.sound.specs.Sound.{sound_system}
 use Rattle.plan.specs.Cut.{whole}
 use Rattle.step.specs.Step.{stepped, Event, does, happened, ran}
 use Rattle.step.specs.Counts.{tally_if, step_tally, event_tally, events_tally}
-use Rattle.step.specs.Rest.{at_rest}
 use Rattle.step.proofs.Outcomes.{size_kept, ran_append, tally_append}
 use Rattle.settle.specs.declared.Half.{Half}
 use Rattle.settle.specs.declared.Half.TheVariants.{Takes, Answers}
-use Rattle.settle.specs.declared.Ending.TheVariants.{Rest, Held, Budget}
+use Rattle.settle.specs.declared.Ending.TheVariants.{Held, Budget}
 use Rattle.settle.specs.Settle.{Settled, Progress, passing, tried, move_of, tried_with, tried_at, half_done, round_done, unless_idle, rounds_done, none_done, nothing_to_do, ending_of, ended_with, outset, settled_from, settled, settled_tally}
 use Rattle.settle.proofs.Idle.{looks_round, rounds_end}
 use Rattle.bound.specs.Bound.{take_or_answer, take_or_answer_done, all_done}
@@ -210,14 +210,6 @@ no_budget n es y way full more =
     let all = onward (outset (ran (fresh_of n).system es)) y z way (round_leads (suc y.steps) y.system.n y) in
     omega (arith, all.count, more_done y more, full, (further_done n es all.events all.every_done).budget)
 
-or_false_left : (a b : Bool) → (a || b) ≡ false → a ≡ false
-or_false_left true b e = e
-or_false_left false b e = refl
-
-or_false_right : (a b : Bool) → (a || b) ≡ false → b ≡ false
-or_false_right true b e = true_is_not_false e
-or_false_right false b e = e
-
 unsound_held : (s : System) → sound_system s ≡ false → (settled 7936 s).ending ≡ Budget → ⊥
 unfolding settled pick
 unsound_held s e said = let z : ◌≡◌ {A = ℕ} 0 1 = cc (rw e at said) in omega arith
@@ -233,6 +225,6 @@ never_budget n es said =
     by_test (ltb y.steps 7936 || nothing_to_do y.system)
     (λ e. not_budget 7936 y e ending)
     (λ e.
-    no_budget n es y (rounds_lead 7937 7936 s.n (outset s)) (ltb-false y.steps 7936 (or_false_left (ltb y.steps 7936) (nothing_to_do y.system) e))
-    (or_false_right (ltb y.steps 7936) (nothing_to_do y.system) e)))
+    let both = or_parts (ltb y.steps 7936) (nothing_to_do y.system) e in
+    no_budget n es y (rounds_lead 7937 7936 s.n (outset s)) (ltb-false y.steps 7936 both.0) both.1))
     (λ unsound. unsound_held s unsound said)

@@ -37,6 +37,7 @@ use Rattle.plan.specs.Cut.{cut_by, cut_short}
 use Rattle.step.specs.Step.{plan_of, taken_off, carried_out, permitted, attempted, does, happened}
 use Rattle.step.specs.Counts.{waiting_from, waiting_towards, one, vanishes_at, vanished, tally_if, step_tally, event_tally}
 use Rattle.step.proofs.Inversion.{sound_stepped}
+use Rattle.step.proofs.Weights.{one_small}
 use Rattle.image.specs.Image.{image_width, channel_width, channels_place, length_place, rows, channel_in, decoded, no_system, system_in}
 use Rattle.alternatives.proofs.Carrying.{some_number}
 use Rattle.engine.specs.Engine.{Attempts}
@@ -45,14 +46,9 @@ use Rattle.counting.specs.Tallied.{counted, Counts}
 use Rattle.effects.proofs.Laws.{popped_at, same_ends}
 
 -- ---- who vanishes
-pub one_low : (t : Bool) → one t ≤ 1
-unfolding one pick
-one_low true = omega arith
-one_low false = omega arith
-
 pub few_vanish : (s : System) (to : ℕ) → sum_up_to 8 (vanishes_at s to) ≤ 8
 unfolding vanishes_at
-few_vanish s to = omega (arith, sum_at_most 8 (vanishes_at s to) 1 (λ k l u. one_low _))
+few_vanish s to = omega (arith, sum_at_most 8 (vanishes_at s to) 1 (λ k l u. one_small _))
 
 -- ---- once the taken message is off
 pub taken_size : (s : System) (c : Scope) → s.n ≡ (taken_off s c).n

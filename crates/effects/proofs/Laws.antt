@@ -1,7 +1,7 @@
 -- Laws of the room that is left once a message is off.
 use Prim.Native.Nat.{ℕ, zero, suc, ◌-◌, ◌≤◌, ◌<◌}
 use mathlib.Core.Path.{◌≡◌, refl, sym, ap, subst}
-use mathlib.Core.Bool.{Bool, true, false, ◌&&◌, ◌||◌}
+use mathlib.Core.Bool.{Bool, true, false, ◌&&◌, ◌||◌, or-false}
 use mathlib.Core.List.{List}
 use native.Mathlib.Omega.{arith}
 use native.Mathlib.Decide.{dec_le, dec_lt}
@@ -92,12 +92,8 @@ room_elsewhere : (s : System) (q p k : ℕ) → (channel_number p k ≡ channel_
 unfolding channel_at with_channel
 room_elsewhere s q p k h =
     rw (at_put_other s.channels (channel_number q p) (channel_number p k) (popped (channel_at s q p)) empty_channel h, off (eqb q p && eqb k p) refl)
-    (sym (or_false _))
+    (sym (or-false _))
   where
-    or_false : (a : Bool) → (a || false) ≡ a
-    or_false true = refl
-    or_false false = refl
-
     off : (b : Bool) → (eqb q p && eqb k p) ≡ b → b ≡ false
     off true e =
         let f = eqb-true q p (and_left (eqb q p) (eqb k p) e) in
@@ -124,15 +120,11 @@ pub takes_is : (s : System) (c : Scope) (k len : ℕ) → len ≡ (channel_at s 
 unfolding taken_off pick
 takes_is s c k len e = rw e (go c.takes)
   where
-    or_false : (a : Bool) → (a || false) ≡ a
-    or_false true = refl
-    or_false false = refl
-
     go : (t : Bool)
         → (ltb (channel_at s c.actor.0 k).len 8 || (((t && eqb c.partner.0 c.actor.0) && eqb k c.actor.0) && eqb (channel_at s c.actor.0 k).len 8))
         ≡ has_room (channel_at (pick t (with_channel s c.partner.0 c.actor.0 (popped (channel_at s c.partner.0 c.actor.0))) s) c.actor.0 k)
     go true = sym (room_off_lem s c.partner.0 c.actor.0 k)
-    go false = or_false _
+    go false = or-false _
 
 pub takes_with_room : (s : System) (c : Scope) (k len : ℕ) → len ≡ (channel_at s c.actor.0 k).len → len < 8 → ltb len 8 ≡ takes (taken_off s c) c.actor.0 k
 unfolding takes

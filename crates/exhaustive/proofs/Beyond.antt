@@ -3,7 +3,7 @@ use Prim.Native.Nat.{ℕ, zero, suc, ◌≤◌}
 use mathlib.Core.Path.{◌≡◌, refl, sym, ◌∙◌, ap}
 use mathlib.Core.Bool.{Bool, true, false, ◌&&◌, ◌||◌, not}
 use native.Mathlib.Omega.{arith}
-use borrow.Author.Tests.{leb-false, lt-leb}
+use borrow.Author.Tests.{leb-false, lt-leb, not-true}
 use lib.Dec.{leb}
 use Rattle.view.specs.Logic.{all_up_to}
 use Rattle.view.proofs.Laws.{by_test, all_elim, true_is_not_false}
@@ -28,10 +28,6 @@ some_fails (suc k) f e =
     (λ all. record { at = suc k; low = omega arith; high = omega arith; fails = sym (ap (λ t. t && f (suc k)) all) ∙ e })
     (λ one. let w = some_fails k f one in record { at = w.at; low = w.low; high = omega (arith, w.high); fails = w.fails })
 
-not_false : (t : Bool) → not t ≡ true → t ≡ false
-not_false true e = true_is_not_false (sym e)
-not_false false e = refl
-
 not_old : (a b : Bool) → (a || not b) ≡ false → (a ≡ false) × (b ≡ true)
 not_old true b e = true_is_not_false e
 not_old false true e = (refl, refl)
@@ -40,7 +36,7 @@ not_old false false e = true_is_not_false e
 pub beyond_has : (n : ℕ) (s : System) → goes_beyond n s ≡ true → EntryBeyond n s
 unfolding goes_beyond all_old_at old_at
 beyond_has n s e =
-    let p = some_fails n (all_old_at s) (not_false (all_up_to n (all_old_at s)) e) in
+    let p = some_fails n (all_old_at s) (not-true (all_up_to n (all_old_at s)) e) in
     let i = some_fails 32 (old_at s p.at) p.fails in
     let w = not_old (leb i.at 1) (is_written (entry_in s p.at i.at)) i.fails in
     record {

@@ -4,7 +4,7 @@ use mathlib.Core.Path.{◌≡◌, refl, sym, ◌∙◌, ap}
 use mathlib.Core.Bool.{Bool, true, ◌&&◌, not}
 use mathlib.Core.List.Memᴰ
 use mathlib.Core.List.{List, [], ◌∷◌, ◌++◌, map, Memᴰ}
-use mathlib.Core.Logic.{◌⊎◌, inl, inr, ⊎_elim}
+use mathlib.Core.Logic.{⊎_elim}
 use native.Mathlib.Omega.{arith}
 use borrow.Author.Tests.{eq-eqb}
 use lib.Dec.{eqb}
@@ -26,19 +26,6 @@ each_puts P (suc n) k f low high here kept a =
 -- the last of a list
 pub at_end : {A : Type 0} (l : List A) (a : A) → Memᴰ a (l ++ (a ∷ []))
 at_end l a = Memᴰ.append_right l (Memᴰ.head refl)
-
--- ---- an image of a list
-pub in_map : {A B : Type 0} (f : A → B) {a : A} {l : List A} → Memᴰ a l → Memᴰ (f a) (map f l)
-in_map f (Memᴰ.head e) = Memᴰ.head (ap f e)
-in_map f (Memᴰ.tail m) = Memᴰ.tail (in_map f m)
-
-pub from_map : {A B : Type 0} (f : A → B) {b : B} (l : List A) → Memᴰ b (map f l) → (a : A) × Memᴰ a l × (b ≡ f a)
-from_map f [] m = absurd (Memᴰ.not-nil m)
-from_map f {b} (x ∷ l) m = by (λ (k : Memᴰ b (map f l)). from_map f l k) (Memᴰ.cases_cons m)
-  where
-    by : (Memᴰ b (map f l) → (a : _) × Memᴰ a l × (b ≡ f a)) → (b ≡ f x) ⊎ Memᴰ b (map f l) → (a : _) × Memᴰ a (x ∷ l) × (b ≡ f a)
-    by below (inl e) = (x, Memᴰ.head refl, e)
-    by below (inr k) = let r = below k in (r.0, Memᴰ.tail r.1, r.2)
 
 -- a test that each of a list passes
 unfoldable pub all_pass : {A : Type 0} → (A → Bool) → List A → Bool
@@ -88,7 +75,7 @@ pub differ_begun : (c : Choice) (a : List Run) → AllDiffer a → AllDiffer (ma
 unfolding AllDiffer
 differ_begun c [] d = tt
 differ_begun c (r ∷ a) d = (
-  λ q m same. let f = from_map (begun_with c) a m in d.0 f.0 f.1 (tail_same r f.0 (same ∙ ap (λ (x : Run). x.choices) f.2)),
+  λ q m same. let f = Memᴰ.of_map (begun_with c) a m in d.0 f.0 f.1 (tail_same r f.0 (same ∙ ap (λ (x : Run). x.choices) (sym f.2))),
   differ_begun c a d.1,
 )
   where

@@ -17,14 +17,11 @@ use Rattle.plan.specs.Cut.{whole}
 use Rattle.step.specs.Step.{stepped, happened, ran}
 use Rattle.orders.specs.Orders.{Choice, pass, make, Run, begun_with, begun_by, by_moves, turned}
 use Rattle.exhaustive.specs.Exhaustive.{may_choose, chosen, events_of, AllDiffer}
-use Rattle.exhaustive.proofs.Lists.{in_map, from_map, all_pass, passes, none_is, told_apart, none_has_code, differ_append, differ_begun}
+use Rattle.exhaustive.proofs.Lists.{all_pass, passes, none_is, told_apart, none_has_code, differ_append, differ_begun}
 use Rattle.exhaustive.proofs.Moves.{code_of}
 
 abbrev choices_of : Run → List Choice
 choices_of r = r.choices
-
-only_one : (o m : Action) → Memᴰ m (o ∷ []) → m ≡ o
-only_one o m k = grind arith
 
 first_move : (o p : Action) (r q : Run) → (begun_with (make o) r).choices ≡ (begun_with (make p) q).choices → o ≡ p
 first_move o p r q e = cc
@@ -61,14 +58,14 @@ module _ (next : System → List Run) (s : System) where
   one_move o r =
       by_pick (λ (l : List Run). Memᴰ r l → ByMove (o ∷ []) r) (eqb (stepped s (whole o)).refusal 0) _ _
       (λ e m.
-      let f = from_map (begun_with (make o)) (next (stepped s (whole o)).system) m in
+      let f = Memᴰ.of_map (begun_with (make o)) (next (stepped s (whole o)).system) m in
       record {
         move = o;
         listed = Memᴰ.head refl;
         done = eqb-true (stepped s (whole o)).refusal 0 e;
         rest = f.0;
         goes_on = f.1;
-        is = f.2;
+        is = sym f.2;
       })
       (λ e m. absurd (Memᴰ.not-nil m))
 
@@ -108,7 +105,7 @@ module _ (next : System → List Run) (s : System) where
       ⊎_elim
       (λ (same : o ≡ p).
       Memᴰ.append_left {s = begun_by next p (stepped s (whole p))} (by_moves next s os)
-      (rw (← same, eq-eqb (stepped s (whole o)).refusal 0 done) (in_map (begun_with (make o)) k)))
+      (rw (← same, eq-eqb (stepped s (whole o)).refusal 0 done) (Memᴰ.map (begun_with (make o)) k)))
       (λ (there : Memᴰ o os). Memᴰ.append_right (begun_by next p (stepped s (whole p))) (made_listed os o there done r k))
       (Memᴰ.cases_cons m)
 
@@ -128,11 +125,11 @@ module _ (next : System → List Run) (s : System) where
       let a = one_move o r m in
       let b = by_move os q k in
       none_has_code code_of (code_of o) os (and_left (none_is code_of (code_of o) os) (told_apart code_of os) apart) b.listed
-      (ap code_of (sym (only_one o a.move a.listed) ∙ first_move a.move b.move a.rest b.rest (sym (ap choices_of a.is) ∙ same ∙ ap choices_of b.is))))
+      (ap code_of (sym (Memᴰ.eq_of_singleton a.listed) ∙ first_move a.move b.move a.rest b.rest (sym (ap choices_of a.is) ∙ same ∙ ap choices_of b.is))))
 
   pub turn_differs : (os : List Action) → told_apart code_of os ≡ true → ((t : System) → AllDiffer (next t)) → AllDiffer (turned next s os)
   unfolding turned
-  turn_differs os apart each = grind (arith, differ_append, differ_begun, moves_differ, from_map, by_move)
+  turn_differs os apart each = grind (arith, differ_append, differ_begun, moves_differ, Memᴰ.of_map, by_move)
 
   -- ---- each run that begins with the turn
   module _ (is_move : Action → Bool) (is_rest : List Choice → System → Bool) (d : ℕ) (os : List Action) where
@@ -156,8 +153,8 @@ module _ (next : System → List Run) (s : System) where
     turn_each kinds each r m =
         ⊎_elim
         (λ (passed : Memᴰ r (map (begun_with pass) (next s))).
-        let a = from_map (begun_with pass) (next s) passed in
-        subst (Traced (is_run_by is_move is_rest) (suc d) s) (sym a.2) (after_pass a.0 (each s a.0 a.1)))
+        let a = Memᴰ.of_map (begun_with pass) (next s) passed in
+        subst (Traced (is_run_by is_move is_rest) (suc d) s) a.2 (after_pass a.0 (each s a.0 a.1)))
         (λ (made : Memᴰ r (by_moves next s os)).
         let b = by_move os r made in
         subst (Traced (is_run_by is_move is_rest) (suc d) s) (sym b.is)
@@ -172,7 +169,7 @@ module _ (next : System → List Run) (s : System) where
     turn_every tried every [] long run = absurd (omega (arith, long))
     turn_every tried every (pass ∷ cs) long run =
         let f = every pass cs (omega (arith, long)) run in
-        record { run = begun_with pass f.run; listed = Memᴰ.append_left (by_moves next s os) (in_map (begun_with pass) f.listed); is = ap (λ (l : List Choice). pass ∷ l) f.is }
+        record { run = begun_with pass f.run; listed = Memᴰ.append_left (by_moves next s os) (Memᴰ.map (begun_with pass) f.listed); is = ap (λ (l : List Choice). pass ∷ l) f.is }
     turn_every tried every (make o ∷ cs) long run =
         let may = is_move o && eqb (stepped s (whole o)).refusal 0 in
         let choice = and_left may (is_rest cs (stepped s (whole o)).system) run in

@@ -4,12 +4,13 @@ use Prim.Native.Nat.{ℕ, zero, suc, ◌+◌, ◌≤◌}
 use Prim.Native.Char.{code}
 use mathlib.Core.Path.{◌≡◌, refl, sym, ◌∙◌, ap, subst}
 use mathlib.Core.Bool.{Bool, true, false, ◌||◌}
-use mathlib.Core.List.{List, [], ◌∷◌, ◌++◌, flat_map, append_assoc}
+use mathlib.Core.List.{List, [], ◌∷◌, ◌++◌, flat_map, append-nil}
 use native.Mathlib.Nat.{le_of_eq}
 use native.Mathlib.Omega.{arith}
 use borrow.Author.Tests.{eq-eqb}
 use lib.ListN.{length, take}
 use lib.Seq.{take_all}
+use Rattle.std.proofs.lemmas.List.Concat.{flat_map-append}
 use Rattle.view.specs.Logic.{pick}
 use Rattle.view.specs.View.{with}
 use Rattle.view.proofs.Laws.{true_is_not_false, or_left, or_right, by_pick}
@@ -18,20 +19,15 @@ use Rattle.sheet.specs.declared.parse.BadFrom.{BadFrom}
 use Rattle.sheet.specs.Grammar.{Piece, byte, size, digit, view, more, Form, form, rises, value_of, when, passed, ended, onward, ends_as, followed, readings, some, allowed, begins, greatest, column, bad_from, first_reading, read}
 
 -- ---- two lists of forms, and two texts, one after the other
-flat_append : {X Y : Type 0} (f : X → List Y) (xs ys : List X) → flat_map f (xs ++ ys) ≡ flat_map f xs ++ flat_map f ys
-unfolding flat_map
-flat_append f [] ys = refl
-flat_append f (x ∷ xs) ys = rw (flat_append f xs ys, append_assoc)
-
 pub some-append : {X : Type 0} (xs ys : List X) → some (xs ++ ys) ≡ (some xs || some ys)
 unfolding some
 some-append [] ys = refl
 some-append (x ∷ xs) ys = refl
 
 followed-append : {A : Type 0} (xs ys : List (Form A)) (l : List ℕ) → followed (xs ++ ys) l ≡ followed xs l ++ followed ys l
-unfolding followed
+unfolding followed flat_map
 followed-append xs ys [] = refl
-followed-append xs ys (b ∷ bs) = ap (λ zs. followed zs bs) (flat_append (onward b) xs ys) ∙ followed-append (flat_map (onward b) xs) (flat_map (onward b) ys) bs
+followed-append xs ys (b ∷ bs) = ap (λ zs. followed zs bs) (flat_map-append (onward b) xs ys) ∙ followed-append (flat_map (onward b) xs) (flat_map (onward b) ys) bs
 
 followed_none : {A : Type 0} (l : List ℕ) → followed {A = A} [] l ≡ []
 unfolding followed flat_map
@@ -44,8 +40,8 @@ followed_on xs [] m = refl
 followed_on xs (b ∷ bs) m = followed_on (flat_map (onward b) xs) bs m
 
 readings-append : {A : Type 0} (xs ys : List (Form A)) (l : List ℕ) → readings (xs ++ ys) l ≡ readings xs l ++ readings ys l
-unfolding readings
-readings-append xs ys l = rw (followed-append xs ys l, flat_append ends_as (followed xs l) (followed ys l))
+unfolding readings flat_map
+readings-append xs ys l = ap (flat_map ends_as) (followed-append xs ys l) ∙ flat_map-append ends_as (followed xs l) (followed ys l)
 
 -- ---- every form can be gone on with to a line of it
 completion : List Piece → List ℕ
@@ -63,19 +59,15 @@ in_second xs ys l e = rw (readings-append xs ys l, some-append (readings xs l) (
 pub in_first_lem : {A : Type 0} (xs ys : List (Form A)) (l : List ℕ) → some (readings xs l) ≡ true → some (readings (xs ++ ys) l) ≡ true
 in_first_lem xs ys l e = rw (readings-append xs ys l, some-append (readings xs l) (readings ys l)) (or_left (some (readings xs l)) (some (readings ys l)) e)
 
-pub append_none : {X : Type 0} (xs : List X) → xs ++ [] ≡ xs
-append_none [] = refl
-append_none (x ∷ xs) = ap (λ ys. x ∷ ys) (append_none xs)
-
 -- a view that has begun may end before the text
 module _ {A : Type 0} (says : (ℕ → ℕ) → A) (fs : List ℕ) (last v : ℕ) (ps : List Piece) where
   pub view_ends : (l : List ℕ) → some (readings (form says (fs ++ (v ∷ [])) ps ∷ []) l) ≡ true → some (readings (form says fs (more last v ∷ ps) ∷ []) l) ≡ true
   unfolding readings followed flat_map passed ended
   view_ends [] e = e
   view_ends (b ∷ bs) e =
-      rw (append_none (when (rises last b) (form says fs (more b (with v (value_of b)) ∷ ps)) ++ passed says (fs ++ (v ∷ [])) ps b))
+      rw (append-nil (when (rises last b) (form says fs (more b (with v (value_of b)) ∷ ps)) ++ passed says (fs ++ (v ∷ [])) ps b))
       (in_second (when (rises last b) (form says fs (more b (with v (value_of b)) ∷ ps))) (passed says (fs ++ (v ∷ [])) ps b) bs
-      (rw (append_none (passed says (fs ++ (v ∷ [])) ps b)) at e))
+      (rw (append-nil (passed says (fs ++ (v ∷ [])) ps b)) at e))
 
 pub byte-read : {A : Type 0} (says : (ℕ → ℕ) → A) (fs : List ℕ) (c : ℕ) (ps : List Piece) (l : List ℕ)
     → readings (form says fs (byte c ∷ ps) ∷ []) (c ∷ l) ≡ readings (form says fs ps ∷ []) l

@@ -4,7 +4,7 @@ use Prim.Native.Char.{code}
 use Prim.Native.Nat.{ℕ, zero, suc, ◌+◌, ◌-◌, ◌<◌}
 use mathlib.Core.Path.{◌≡◌, refl, sym, ◌∙◌, ap, subst}
 use mathlib.Core.Bool.{Bool, true, false}
-use mathlib.Core.List.{List, [], ◌∷◌, ◌++◌, flat_map, append_assoc}
+use mathlib.Core.List.{List, [], ◌∷◌, ◌++◌, flat_map, append-nil, append_assoc}
 use native.Mathlib.Omega.{arith}
 use borrow.Author.Tests.{leb-true, eqb-true}
 use lib.Dec.{leb, eqb}
@@ -17,7 +17,7 @@ use Rattle.std.specs.Prelude.{Result, Ok, Err, is_ok}
 use Rattle.sheet.specs.declared.parse.BadFrom.{BadFrom}
 use Rattle.sheet.specs.Grammar.{Piece, byte, size, digit, view, more, Form, form, is_digit, rises, value_of, when, passed, ended, onward, ends_as, followed, readings, some, allowed, column, bad_from, first_reading, read}
 use Rattle.sheet.specs.Parse.{◌>>=◌, first_forms, later_forms, opened, parsed, stands, follow, fits, digit_at}
-use Rattle.sheet.proofs.Forms.{bad, append_none, in_first_lem, in_second, byte-read, view_ends}
+use Rattle.sheet.proofs.Forms.{bad, in_first_lem, in_second, byte-read, view_ends}
 use Rattle.sheet.proofs.FirstBytes.{first_read}
 
 -- ---- a good first line asks for 1 to 8 processes
@@ -124,7 +124,7 @@ module _ {A : Type 0} (P : A → Type 0) where
   says_ended : (says : (ℕ → ℕ) → A) (fs : List ℕ) (ps : List Piece) (rest : List A) (e : BadFrom) (a : A) → Says [] (form says fs ps)
       → (first_reading rest e ≡ Ok a → P a) → first_reading (ended says fs ps ++ rest) e ≡ Ok a → P a
   unfolding ended first_reading
-  says_ended says fs [] rest e a p h is = let same : says (λ i. get_or fs i 0) ≡ a = cc in subst P same (rw (append_none fs) at (p [] end))
+  says_ended says fs [] rest e a p h is = let same : says (λ i. get_or fs i 0) ≡ a = cc in subst P same (rw (append-nil fs) at (p [] end))
   says_ended says fs (byte c ∷ ps) rest e a p h is = h is
   says_ended says fs (size ∷ ps) rest e a p h is = h is
   says_ended says fs (digit ∷ ps) rest e a p h is = h is
@@ -169,7 +169,7 @@ leads : {A : Type 0} (x y : Form A) (us ws : List (Form A)) (b : ℕ) (l : List 
     → some (readings (x ∷ []) (b ∷ l)) ≡ true
 unfolding readings followed flat_map
 leads {A} x y us ws b l is e =
-    ap (λ (xs : List (Form A)). some (readings xs l)) (append_none (onward b x) ∙ is) ∙ in_second us (y ∷ ws) l (in_first_lem (y ∷ []) ws l e)
+    ap (λ (xs : List (Form A)). some (readings xs l)) (append-nil (onward b x) ∙ is) ∙ in_second us (y ∷ ws) l (in_first_lem (y ∷ []) ws l e)
 
 written_read : {A : Type 0} (says : (ℕ → ℕ) → A) (fs : List ℕ) {ps : List Piece} {vs l : List ℕ} → Written ps vs l → some (readings (form says fs ps ∷ []) l) ≡ true
 unfolding readings followed flat_map passed ended some pick

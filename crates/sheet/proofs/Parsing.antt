@@ -2,11 +2,11 @@
 use Prim.Native.Nat.{ℕ, suc, ◌+◌, ◌-◌, ◌≤◌, ◌<◌}
 use mathlib.Core.Path.{◌≡◌, refl, sym, ◌∙◌, ap}
 use mathlib.Core.Bool.{Bool, true, false, ◌&&◌, not}
-use mathlib.Core.List.{List, [], ◌∷◌, ◌++◌, map, flat_map, append_assoc}
+use mathlib.Core.List.{List, [], ◌∷◌, ◌++◌, map, flat_map, append-nil, append_assoc}
 use native.Mathlib.Omega.{arith}
 use native.Mathlib.Nat.{add-zero}
 use native.Mathlib.Numerals.{add-one}
-use borrow.Author.Tests.{eq-eqb, ne_eqb, lt-ltb, le-leb, eqb-true, ltb-true, ltb-false}
+use borrow.Author.Tests.{eq-eqb, ne_eqb, lt-ltb, le-leb, eqb-true, ltb-true, ltb-false, not-true}
 use Rattle.std.proofs.lemmas.Bool.Decides.{nat_tests}
 use mathlib.Core.Logic.{◌⊎◌}
 use lib.Dec.{eqb, ltb, leb}
@@ -22,7 +22,7 @@ use Rattle.sheet.specs.declared.parse.BadFrom.{BadFrom}
 use Rattle.sheet.specs.declared.parse.Field.{Field}
 use Rattle.sheet.specs.Grammar.{Piece, view, more, Form, form, is_capital, piece, rises, value_of, when, passed, ended, onward, ends_as, some}
 use Rattle.sheet.specs.Parse.{◌>>=◌, stands, follow, fits, digit_at, field, risen, view_from}
-use Rattle.sheet.proofs.Forms.{append_none, bad, read_from, goes_on, is_stuck, breaks_off, ends, same_next, same_end}
+use Rattle.sheet.proofs.Forms.{bad, read_from, goes_on, is_stuck, breaks_off, ends, same_next, same_end}
 
 -- ---- the code's loop over a form, after i bytes of it, at this place of the line
 module _ (f l : List ℕ) (i at : ℕ) where
@@ -79,11 +79,7 @@ values [] at l = []
 values (f ∷ t) at l = pick (is_capital f) (digit_at l at ∷ values t (suc at) l) (values t (suc at) l)
 
 plain_is : (f : ℕ) → plain f ≡ true → eqb f 86 ≡ false
-plain_is f e = by (eqb f 86) e
-  where
-    by : (t : Bool) → not t ≡ true → t ≡ false
-    by true e = sym e
-    by false e = refl
+plain_is f e = not-true (eqb f 86) e
 
 module _ {A : Type 0} (says : (ℕ → ℕ) → A) (fs : List ℕ) (ps : List Piece) (f b : ℕ) where
   by_capital : (t : Bool) → is_capital f ≡ t → eqb f 78 ≡ false → eqb f 86 ≡ false → passed says fs (piece f ∷ ps) b ≡ when (stands f b) (form says (grown f b fs) ps)
@@ -173,7 +169,7 @@ module _ {A : Type 0} (x : Form A) (xs : List (Form A)) where
       → read_from (map (before t fs) (x ∷ xs)) k m
       ≡ (follow t k m >>= λ at. read_from (map (before [] (fs ++ values t 0 m)) (x ∷ xs)) at (drop (length t) m))
   unfolding follow pick values all_plain
-  text_read_lem [] fs k m p = ap (λ (ys : List ℕ). read_from (map (before [] ys) (x ∷ xs)) k m) (sym (append_none fs))
+  text_read_lem [] fs k m p = ap (λ (ys : List ℕ). read_from (map (before [] ys) (x ∷ xs)) k m) (sym (append-nil fs))
   text_read_lem (f ∷ t) fs k [] p = breaks_off (map (before (f ∷ t) fs) (x ∷ xs)) k (ended_before f t fs (x ∷ xs))
   text_read_lem (f ∷ t) fs k (b ∷ bs) p = by (stands f b) refl (text_read_lem t (grown f b fs) (suc k) bs (and_right (plain f) (all_plain t) p))
     where

@@ -1,9 +1,10 @@
 -- An event that counts a committed proposal is the transition that sends Commits.
 use Prim.Native.Nat.{ℕ}
-use mathlib.Core.Path.{◌≡◌, refl, sym, ◌∙◌, subst}
+use mathlib.Core.Path.{◌≡◌, refl, subst}
 use mathlib.Core.Bool.{Bool, true, false}
 use mathlib.Core.List.{List}
 use native.Mathlib.Omega.{arith}
+use borrow.Author.Clash.{clash}
 use borrow.Author.Tests.{ne_eqb}
 use lib.Dec.{eqb}
 use Rattle.std.specs.Prelude.{None, Some}
@@ -11,7 +12,6 @@ use Rattle.view.specs.declared.ProcessId.{ProcessId}
 use Rattle.view.specs.declared.GroupIndex.{GroupIndex}
 use Rattle.view.specs.Logic.{pick}
 use Rattle.view.specs.View.{subset, with}
-use Rattle.view.proofs.Laws.{true_is_not_false}
 use Rattle.tallies.specs.Tally.{no_tally}
 use Rattle.channel.specs.declared.Message.{Message}
 use Rattle.channel.specs.declared.Message.TheVariants.{Retry}
@@ -79,25 +79,22 @@ unfolding plan_of receive_plan
 taking_plain s q p m left taken plain = grind arith
 
 -- ---- each transition
-contrary : {C : Type 0} {a : Bool} → a ≡ false → a ≡ true → C
-contrary off on = true_is_not_false (sym on ∙ off)
-
 module _ {s t : System} where
   commits_only : (o : Action) → Transition s t o → is_commit (plan_of s o).message ≡ true → Committing s t (scope_of o).actor.0
   unfolding plan_of scope_of message_plan is_commit
   commits_only (Report p v) (proposes r) e = grind (arith, report_plain)
   commits_only (Report p v) (follows r) e = grind (arith, report_plain)
-  commits_only (Receive q p) (records r) e = contrary (taking_plain s q p _ _ r.taken refl) e
+  commits_only (Receive q p) (records r) e = clash _ e (taking_plain s q p _ _ r.taken refl)
   commits_only (Receive q p) (reproposes r) e =
-      contrary (taking_plain s q p _ _ r.taken (retry_plain q p.0 (variables_at s p.0) r.old r.new)) e
-  commits_only (Receive q p) (ignores r) e = contrary (taking_plain s q p _ _ r.taken (retry_plain q p.0 (variables_at s p.0) r.old r.new)) e
+      clash _ e (taking_plain s q p _ _ r.taken (retry_plain q p.0 (variables_at s p.0) r.old r.new))
+  commits_only (Receive q p) (ignores r) e = clash _ e (taking_plain s q p _ _ r.taken (retry_plain q p.0 (variables_at s p.0) r.old r.new))
   commits_only (Receive q p) (marks r) e =
-      contrary (taking_plain s q p _ _ r.taken (mark_plain q (variables_at s p.0) r.index.0 r.acks r.marking r.partial)) e
+      clash _ e (taking_plain s q p _ _ r.taken (mark_plain q (variables_at s p.0) r.index.0 r.acks r.marking r.partial))
   commits_only (Receive q p) (commits r) e = record { from = q; by = p; same = refl; case = r }
-  commits_only (Receive q p) (enters r) e = contrary (taking_plain s q p _ _ r.taken refl) e
+  commits_only (Receive q p) (enters r) e = clash _ e (taking_plain s q p _ _ r.taken refl)
   commits_only (Respond p q) (accepts r) e = grind (arith, respond_plain)
   commits_only (Respond p q) (declines r) e = grind (arith, respond_plain)
-  commits_only (Crash p) (crashes r) e = contrary refl e
+  commits_only (Crash p) (crashes r) e = clash _ e refl
 
 -- ---- an event
 -- what sends Commits once it is cut would send them

@@ -1,7 +1,7 @@
 -- Laws of tests, of loops over 1 to n and of lists numbered from 1, which the proofs of all crates cite.
 use Prim.Native.Nat.{ℕ, zero, suc, ◌≤◌, ◌<◌, ◌+◌, ◌-◌}
 use mathlib.Core.Path.{◌≡◌, refl, sym, ◌∙◌, ap, subst}
-use mathlib.Core.Bool.{Bool, true, false, ◌&&◌, ◌||◌, beq, and_assoc, and-true}
+use mathlib.Core.Bool.{Bool, true, false, ◌&&◌, and_assoc}
 use mathlib.Core.List.{List, [], ◌∷◌, ◌++◌, map}
 use mathlib.Core.Logic.{◌⊎◌, inl, inr, ⊎_elim}
 use native.Mathlib.Omega.{arith}
@@ -13,34 +13,16 @@ use lib.Dec.{leb}
 use lib.ListN.{length, get_or, set, replicate, length-set, length-map, get_or-eq_default}
 use lib.Seq.{get_or-set_same, get_or-set_other, set-set, set-get_or, set_out}
 use Rattle.std.specs.Prelude.{Option, None, Some}
+pub use Rattle.std.specs.Cmp.{first_so as and_left, second_so as and_right}
+pub use Rattle.std.specs.Cmp.Derive.{both_true as and_intro}
+pub use Rattle.std.proofs.lemmas.Bool.{or_left, or_right, or_cases}
+use Rattle.std.proofs.lemmas.Bool.{true≢false}
+use Rattle.std.proofs.lemmas.List.{get_or_default}
 use Rattle.view.specs.Logic.{pick, all_up_to, each_up_to, at, put, is_one_of, place_of}
 
 -- ---- tests
 pub true_is_not_false : {A : Type 0} → true ≡ false → A
-true_is_not_false e = absurd (let z : ◌≡◌ {A = ℕ} 0 1 = cc in omega arith)
-
-pub and_left : (a b : Bool) → (a && b) ≡ true → a ≡ true
-and_left true b e = refl
-and_left false b e = e
-
-pub and_right : (a b : Bool) → (a && b) ≡ true → b ≡ true
-and_right true b e = e
-and_right false b e = true_is_not_false (sym e)
-
-pub and_intro : {a b : Bool} → a ≡ true → b ≡ true → (a && b) ≡ true
-and_intro p q = cc
-
-pub or_right : (a b : Bool) → b ≡ true → (a || b) ≡ true
-or_right true b e = refl
-or_right false b e = e
-
-pub or_left : (a b : Bool) → a ≡ true → (a || b) ≡ true
-or_left true b e = refl
-or_left false b e = true_is_not_false (sym e)
-
-pub or_cases : (a b : Bool) → (a || b) ≡ true → (a ≡ true) ⊎ (b ≡ true)
-or_cases true b e = inl refl
-or_cases false b e = inr e
+true_is_not_false e = absurd (true≢false e)
 
 -- by a test, and by whether two numbers are equal
 pub by_pick : {A : Type 0} (P : A → Type 0) (t : Bool) (a b : A) → (t ≡ true → P a) → (t ≡ false → P b) → P (pick t a b)
@@ -54,12 +36,6 @@ by_test false yes-case no-case = no-case refl
 
 pub by_number : {C : Type 0} (k p : ℕ) → (k ≡ p → C) → ((k ≡ p → ⊥) → C) → C
 by_number k p same other = elim (ℕ_discrete k p) [ yes e ↦ same e | no h ↦ other h ]
-
-pub same_true : (a b : Bool) → beq a b ≡ true → a ≡ b
-same_true true true e = refl
-same_true true false e = sym e
-same_true false true e = e
-same_true false false e = refl
 
 pub one_of : (n k : ℕ) → is_one_of n k ≡ true → (1 ≤ k) × (k ≤ n)
 one_of n k e = (leb-true 1 k (and_left (leb 1 k) (leb k n) e), leb-true k n (and_right (leb 1 k) (leb k n) e))
@@ -143,10 +119,6 @@ all_elim (suc n) f e k l u =
 unfoldable pub tested_up_to : Bool → (ℕ → Bool) → ℕ → Bool
 tested_up_to a f i = a && all_up_to i f
 
-pub none_tested : (a : Bool) (f : ℕ → Bool) → a ≡ tested_up_to a f 0
-unfolding tested_up_to all_up_to
-none_tested a f = sym (and-true a)
-
 pub one_more : (a : Bool) (f : ℕ → Bool) (i : ℕ) (ok next m : Bool) → ok ≡ tested_up_to a f i → next ≡ (ok && m) → m ≡ f (i + 1)
     → next ≡ tested_up_to a f (i + 1)
 unfolding tested_up_to
@@ -170,16 +142,10 @@ each_as P Q f (x ∷ xs) e = (f x e.0, each_as P Q f xs e.1)
 pub long : {A B : Type 0} (f : A → B) (l : List A) (n : ℕ) → length (map f l) ≡ n → length l ≡ n
 long f l n e = sym (length-map l f) ∙ e
 
--- an element within the list is read alike whatever stands for one past its end
-pub same_default : {A : Type 0} (l : List A) (k : ℕ) (d e : A) → k < length l → get_or l k d ≡ get_or l k e
-same_default [] k d e h = absurd (not-suc-le-zero h)
-same_default (x ∷ l) zero d e h = refl
-same_default (x ∷ l) (suc k) d e h = same_default l k d e (le_of_suc-le-suc h)
-
 -- the element at k, counted from 0, is the one numbered k + 1
 pub at_next : {A : Type 0} (l : List A) (k : ℕ) (d e : A) → k < length l → get_or l k d ≡ at l (k + 1) e
 unfolding at
-at_next l k d e h = rw add-one (same_default l k d e h)
+at_next l k d e h = rw add-one (get_or_default l k d e h)
 
 pub put_next : {A : Type 0} (l : List A) (k : ℕ) (a : A) → set l k a ≡ put l (k + 1) a
 unfolding put

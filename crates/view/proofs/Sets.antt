@@ -1,7 +1,7 @@
 -- Laws of views as sets of processes.
 use Prim.Native.Nat.{ℕ, zero, suc, ◌≤◌, ◌<◌, ◌-◌, ◌/◌, ◌%◌, ◌^◌}
 use mathlib.Core.Path.{◌≡◌, refl, sym, ◌∙◌, ap, subst}
-use mathlib.Core.Bool.{Bool, true, false, ◌&&◌, ◌||◌, not, beq, and-true}
+use mathlib.Core.Bool.{Bool, true, false, ◌&&◌, ◌||◌, not, and-true, and-false}
 use mathlib.Core.Logic.{◌⊎◌, inl, inr, ⊎_elim}
 use native.Mathlib.Omega.{arith}
 use native.Mathlib.Decide.{dec_le}
@@ -10,9 +10,10 @@ use borrow.Author.Tests.{eqb-true, leb-true, le-leb}
 use lib.Dec.{eqb, leb, ltb}
 use lib.Count.{ones, ones_in}
 use lib.Bits.{bit_and, bit_or, bit_xor, and_shr, or_shr, xor_shr, and_mod, or_mod, xor_mod}
+use Rattle.std.proofs.lemmas.Bool.{agree_below, agree_below_at}
 use Rattle.view.specs.Logic.{pick, each_up_to, is_one_of}
 use Rattle.view.specs.View.{has, within, subset, with, minus, switched, everyone, counted_at, count_of, joined, first_members}
-use Rattle.view.proofs.Laws.{and_left, and_right, and_intro, one_of, all_elim, all_intro, or_cases, true_is_not_false, by_pick, by_test, same_true, each_keeps}
+use Rattle.view.proofs.Laws.{and_left, and_right, and_intro, one_of, all_elim, all_intro, or_cases, or_left, or_right, true_is_not_false, by_pick, by_test, each_keeps}
 use Rattle.view.proofs.Table.{every_below, below}
 
 -- a process that a view names has a number from 1 to 8
@@ -103,8 +104,7 @@ has_only q u l h e = ⊎_elim (λ n. absurd (has_none u n)) (λ k. k) (has-with 
 
 -- ---- and back: what is added is named, and what was named stays
 or_both : (a b : Bool) → (a ≡ true) ⊎ (b ≡ true) → (a || b) ≡ true
-or_both true b h = refl
-or_both false b h = ⊎_elim (λ e. true_is_not_false (sym e)) (λ e. e) h
+or_both a b h = ⊎_elim (or_left a b) (or_right a b) h
 
 or_has : (a b u : ℕ) → (has a u ≡ true) ⊎ (has b u ≡ true) → has (bit_or a b) u ≡ true
 unfolding has
@@ -210,7 +210,7 @@ with_other v q u l h n =
     (λ f. ⊎_elim (λ g. true_is_not_false (sym g ∙ e)) (λ same. absurd (n same)) (has-with v q u l h f))
     (λ f. f ∙ sym e))
 
-not_named : (u : ℕ) → has 0 u ≡ false
+pub not_named : (u : ℕ) → has 0 u ≡ false
 not_named u = by_test (has 0 u) (λ e. absurd (has_none u e)) (λ e. e)
 
 module _ (v q : ℕ) (l : 1 ≤ q) (h : q ≤ 8) (on : Bool) where
@@ -219,11 +219,7 @@ module _ (v q : ℕ) (l : 1 ≤ q) (h : q ≤ 8) (on : Bool) where
   switched_same =
       by_pick (λ (w : ℕ). has w q ≡ on) on _ _
       (λ e. with_new v q l h ∙ sym e)
-      (λ e. has-minus v (with 0 q) q ∙ ap (λ (x : Bool). has v q && not x) (with_new 0 q l h) ∙ none (has v q) ∙ sym e)
-    where
-      none : (x : Bool) → (x && false) ≡ false
-      none true = refl
-      none false = refl
+      (λ e. has-minus v (with 0 q) q ∙ ap (λ (x : Bool). has v q && not x) (with_new 0 q l h) ∙ and-false (has v q) ∙ sym e)
 
   pub switched_other : (u : ℕ) → (u ≡ q → ⊥) → has (switched v q on) u ≡ has v u
   unfolding switched
@@ -237,7 +233,7 @@ pub everyone-has : (n u : ℕ) → n ≤ 8 → has (everyone n) u ≡ is_one_of 
 unfolding has everyone pick
 everyone-has n u h =
     elim (dec_le u 8) [
-      | yes low ↦ same_true _ _ (below 9 (λ k. beq (has (everyone n) k) (is_one_of n k)) (below 9 (λ m. every_below 9 (λ k. beq (has (everyone m) k) (is_one_of m k))) refl n (omega arith)) u (omega arith))
+      | yes low ↦ agree_below_at (has (everyone n)) (is_one_of n) 9 u (below 9 (λ m. agree_below (has (everyone m)) (is_one_of m) 9) refl n (omega arith)) (omega arith)
       | no high ↦ by_test (has (everyone n) u)
           (λ e. absurd (high (has_number (everyone n) u e).1))
           (λ e. e ∙ sym (beyond (is_one_of n u) refl high))

@@ -1,13 +1,12 @@
 -- Laws of views. A law of view bytes is a test that the checker computes over all of them, carried to each.
 use Prim.Native.Nat.{ℕ, ◌<◌, ◌*◌, ◌/◌, ◌%◌, ◌^◌}
 use mathlib.Core.Path.{◌≡◌, refl}
-use mathlib.Core.Bool.{beq}
 use borrow.Author.Tests.{eqb-true}
 use lib.Dec.{eqb}
+use Rattle.std.proofs.lemmas.Bool.{agree_below, agree_below_at}
 use Rattle.view.specs.Logic.{all_up_to}
 use Rattle.view.specs.View.{has, within}
-use Rattle.view.proofs.Laws.{same_true}
-use Rattle.view.proofs.Table.{every_below, below}
+use Rattle.view.proofs.Table.{below}
 
 -- a byte's bit, as the machine shifts it
 pub one_bit : (j : ℕ) → j < 8 → 1 * 2 ^ j % 256 ≡ 2 ^ j
@@ -16,5 +15,4 @@ one_bit j h = eqb-true _ _ (below 8 (λ i. eqb (1 * 2 ^ i % 256) (2 ^ i)) refl j
 pub shifted_out : (n v : ℕ) → n < 8 → v < 256 → eqb (v / 2 ^ n) 0 ≡ within n v
 unfolding within has all_up_to
 shifted_out n v h b =
-    same_true _ _
-    (below 8 (λ m. beq (eqb (v / 2 ^ m) 0) (within m v)) (below 256 (λ w. every_below 8 (λ m. beq (eqb (w / 2 ^ m) 0) (within m w))) refl v b) n h)
+    agree_below_at (λ m. eqb (v / 2 ^ m) 0) (λ m. within m v) 8 n (below 256 (λ w. agree_below (λ m. eqb (w / 2 ^ m) 0) (λ m. within m w) 8) refl v b) h
