@@ -1,5 +1,5 @@
 -- What any effect does to the parts of what is due. Where a process stops, or some of the addressees are not told, there is only less.
-use Prim.Native.Nat.{ℕ, ◌+◌, ◌-◌, ◌*◌, ◌≤◌, ◌<◌}
+use Prim.Native.Nat.{ℕ, ◌+◌, ◌*◌, ◌≤◌, ◌<◌}
 use mathlib.Core.Path.{◌≡◌}
 use mathlib.Core.Bool.{Bool, true}
 use mathlib.Core.List.{List}
@@ -19,7 +19,7 @@ use Rattle.system.specs.System.{process_at, variables_at}
 use Rattle.plan.specs.declared.Change.{Change}
 use Rattle.step.specs.Counts.{one}
 use Rattle.step.proofs.Cases.{waiting_at, afterwards, Effect}
-use Rattle.step.proofs.Effects.{each_process, each_process_but, each_pending}
+use Rattle.step.proofs.Effects.{each_process, each_pending}
 use Rattle.step.proofs.Weights.{is, is_self, by_is, is_other, mark, count, weighs}
 use Rattle.bound.proofs.Dues.{outward, inward, selfward, recorded, recorded_small, held, ahead}
 

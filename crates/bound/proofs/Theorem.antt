@@ -1,7 +1,7 @@
 -- In all steps from a fresh system of n processes, at most 124 n n takes and answers are done: for every list of steps, refused ones
 -- included. So many are due at the start, each that is done pays one, and no step makes more due.
-use Prim.Native.Nat.{ℕ, ◌+◌, ◌-◌, ◌*◌, ◌≤◌}
-use mathlib.Core.Path.{◌≡◌, refl, ◌∙◌, ap, subst}
+use Prim.Native.Nat.{ℕ, ◌+◌, ◌*◌, ◌≤◌}
+use mathlib.Core.Path.{◌≡◌, refl, ◌∙◌, subst}
 use mathlib.Core.Bool.{true, false}
 use mathlib.Core.List.{List, [], ◌∷◌, ◌++◌}
 use native.Mathlib.Omega.{arith}
@@ -10,16 +10,13 @@ use borrow.Author.Tests.{eqb-true, ne_eqb}
 use lib.Dec.{eqb}
 use lib.ListN.{length}
 use Rattle.view.specs.Logic.{pick, is_one_of}
-use Rattle.view.specs.View.{has}
-use Rattle.view.proofs.Laws.{by_pick, by_test, and_left, and_right, one_of}
-use Rattle.system.specs.declared.Variables.{Variables}
+use Rattle.view.proofs.Laws.{and_left, and_right, one_of}
 use Rattle.system.specs.declared.System.{System}
 use Rattle.system.specs.Outcome.{Outcome}
 use Rattle.system.specs.Fresh.{fresh_variables, fresh_system, fresh_of}
 use Rattle.sound.specs.Sound.{sound_system}
 use Rattle.plan.specs.declared.Step.{Step}
 use Rattle.step.specs.Step.{stepped, Event, does, happened, ran}
-use Rattle.step.specs.Counts.{one}
 use Rattle.step.proofs.Soundness.{Valid, sound_facts}
 use Rattle.step.proofs.Inversion.{by_outcome}
 use Rattle.step.proofs.SoundSteps.{step_sound}

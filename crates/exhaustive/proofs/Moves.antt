@@ -1,25 +1,21 @@
 -- The moves that a turn tries: each is of its kind, no two are alike, and every other of its kind is refused.
 use Prim.Native.Nat.{ℕ, ◌+◌, ◌*◌, ◌/◌, ◌^◌, ◌≤◌, ◌<◌}
-use mathlib.Core.Path.{◌≡◌, refl, sym, ◌∙◌}
-use mathlib.Core.Bool.{true, ◌&&◌}
+use mathlib.Core.Path.{◌≡◌, sym, ◌∙◌}
+use mathlib.Core.Bool.{true}
 use mathlib.Core.List.Memᴰ
 use mathlib.Core.List.{List, [], Memᴰ}
 use native.Mathlib.Omega.{arith}
 use borrow.Author.Tests.{ltb-true, eqb-true}
-use lib.Dec.{eqb}
 use Rattle.view.specs.declared.ProcessId.{ProcessId}
 use Rattle.view.specs.Logic.{pick, each_up_to, is_one_of}
 use Rattle.view.specs.View.{has, within, everyone}
-use Rattle.view.proofs.Laws.{by_pick, each_keeps, one_of, and_left, and_right, true_is_not_false}
+use Rattle.view.proofs.Laws.{each_keeps, one_of, true_is_not_false}
 use Rattle.view.proofs.Sets.{not_empty}
 use Rattle.view.proofs.Views.{shifted_out}
 use Rattle.system.specs.declared.System.{System}
-use Rattle.system.specs.Outcome.{Outcome}
-use Rattle.system.specs.System.{variables_at}
-use Rattle.sound.specs.Sound.{sound_system}
 use Rattle.plan.specs.declared.Action.{Action}
 use Rattle.plan.specs.declared.Action.TheVariants.{Report, Receive, Respond, Crash}
-use Rattle.plan.specs.Plan.{report_plan, Planned}
+use Rattle.plan.specs.Plan.{report_plan}
 use Rattle.step.specs.Scope.{scope_of}
 use Rattle.plan.specs.Cut.{whole, cut_by}
 use Rattle.step.specs.Step.{plan_of, carried_out, permitted, attempted, stepped}

@@ -1,17 +1,14 @@
 -- "I tried them all": for 1 or 2 processes and every depth the walk has each run once, and no other; and each ends as every list of steps
 -- does.
 use Prim.Native.Nat.{ℕ, zero, suc, ◌≤◌}
-use mathlib.Core.Path.{◌≡◌, refl, sym, ◌∙◌, ap, subst}
+use mathlib.Core.Path.{◌≡◌, refl, sym, ◌∙◌, ap}
 use mathlib.Core.Bool.{Bool, true}
 use mathlib.Core.List.Memᴰ
 use mathlib.Core.List.{List, [], ◌∷◌, Memᴰ}
-use mathlib.Core.Logic.{⊎_elim}
 use native.Mathlib.Omega.{arith}
-use borrow.Author.Tests.{le-leb}
 use lib.ListN.{length}
 use Rattle.std.specs.Prelude.{Ok}
 use Rattle.view.specs.Logic.{pick, is_one_of}
-use Rattle.view.proofs.Laws.{one_of}
 use Rattle.system.specs.declared.System.{System}
 use Rattle.system.specs.Fresh.{fresh_system, fresh_of}
 use Rattle.plan.specs.Cut.{whole}
@@ -21,7 +18,7 @@ use Rattle.agreement.specs.Demand.{start}
 use Rattle.agreement.proofs.Theorem.{demand_3}
 use Rattle.quiet.proofs.Theorem.{quiet_is_agreed}
 use Rattle.orders.specs.Orders.{Choice, pass, make, Run, ended_at, link_moves, process_moves, link_turn, process_turn, run_counts_of, walked}
-use Rattle.orders.proofs.Moves.{one_or_two, one_of_eight}
+use Rattle.orders.proofs.Moves.{one_or_two}
 use Rattle.exhaustive.specs.Exhaustive.{is_link_move, is_process_move, chosen, is_link_run, is_process_run, events_of, AllDiffer, TriedAll}
 use Rattle.exhaustive.proofs.Beyond.{beyond_has, has_beyond}
 use Rattle.exhaustive.proofs.Moves.{link_tried, process-tried, link_kinds, process_kinds, link_apart, process-apart}

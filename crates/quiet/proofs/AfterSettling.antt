@@ -1,20 +1,16 @@
 -- A settling run is itself a list of takes and answers: what it leaves at rest is agreed.
 use Prim.Native.Nat.{ℕ}
 use mathlib.Core.Path.{◌≡◌, sym, ◌∙◌, subst}
-use mathlib.Core.Bool.{true, ◌||◌}
+use mathlib.Core.Bool.{true}
 use mathlib.Core.List.{List, ◌++◌}
 use native.Mathlib.Omega.{arith}
-use lib.Dec.{ltb}
 use Rattle.view.specs.Logic.{pick}
-use Rattle.view.proofs.Laws.{by_pick}
 use Rattle.system.specs.declared.System.{System}
-use Rattle.sound.specs.Sound.{sound_system}
 use Rattle.step.specs.Step.{Event, ran}
 use Rattle.step.specs.Rest.{at_rest}
 use Rattle.step.proofs.Outcomes.{ran_append}
-use Rattle.settle.specs.declared.Ending.{Ending}
 use Rattle.settle.specs.declared.Ending.TheVariants.{Rest}
-use Rattle.settle.specs.Settle.{Settled, Progress, nothing_to_do, ending_of, ended_with, settled}
+use Rattle.settle.specs.Settle.{Progress, ending_of, ended_with, settled}
 use Rattle.bound.proofs.Settling.{settles_by}
 use Rattle.agreement.specs.Demand.{start}
 use Rattle.quiet.specs.Quiet.{is_common, Final}

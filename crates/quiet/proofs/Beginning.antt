@@ -1,16 +1,14 @@
 -- A fresh system is orderly, with the opening view accepted.
 use Prim.Native.Nat.{ℕ, ◌≤◌}
-use mathlib.Core.Path.{◌≡◌, refl, sym, ◌∙◌, ap, subst}
+use mathlib.Core.Path.{◌≡◌, refl}
 use mathlib.Core.Bool.{true}
 use native.Mathlib.Omega.{arith}
 use Rattle.view.specs.Logic.{pick, is_one_of}
 use Rattle.view.specs.View.{has, everyone, first_from, least_of}
-use Rattle.view.proofs.Laws.{true_is_not_false, one_of, is_one_of_lem}
+use Rattle.view.proofs.Laws.{one_of}
 use Rattle.view.proofs.Sets.{everyone-has}
-use Rattle.system.specs.declared.Variables.{Variables}
 use Rattle.system.specs.declared.Process.{Process}
 use Rattle.system.specs.declared.System.{System}
-use Rattle.system.specs.Process.{entry_at}
 use Rattle.system.specs.System.{no_process, variables_at, entry_in}
 use Rattle.system.specs.Fresh.{fresh_variables, fresh_process, fresh_system}
 use Rattle.step.proofs.Beginning.{each_fresh, fresh_process_lem, fresh_variables_lem, first_entry}
@@ -19,7 +17,7 @@ use Rattle.agreement.proofs.Beginning.{fresh_proposal}
 use Rattle.quiet.proofs.Views.{everyone_least}
 use Rattle.quiet.proofs.Opening.{Opened, opening, opened_facts, fresh_opened}
 use Rattle.quiet.proofs.Proposals.{fresh_proposals}
-use Rattle.quiet.proofs.Standing.{Followed, Untouched, Standing}
+use Rattle.quiet.proofs.Standing.{Untouched, Standing}
 use Rattle.quiet.proofs.Pursuit.{Pursuit}
 use Rattle.quiet.proofs.Orderly.{gone, Orderly}
 

@@ -1,7 +1,7 @@
 -- The opening view is taken for one that every process has accepted at index 1, before the first step: so the opening view, with no
 -- report at all, is a case like any other.
 use Prim.Native.Nat.{ℕ, zero, suc, ◌≤◌, ◌<◌}
-use mathlib.Core.Path.{◌≡◌, refl, sym, ◌∙◌, subst}
+use mathlib.Core.Path.{◌≡◌, refl, sym, ◌∙◌}
 use mathlib.Core.Bool.{true, ◌&&◌}
 use mathlib.Core.List.{List, [], ◌∷◌}
 use mathlib.Core.Logic.{⊎_elim}
@@ -12,7 +12,6 @@ use Rattle.view.specs.Logic.{is_one_of}
 use Rattle.view.specs.View.{everyone}
 use Rattle.view.proofs.Laws.{and_left, and_right, and_intro, or_left, or_right, or_cases, by_number, true_is_not_false, one_of, is_one_of_lem}
 use Rattle.view.proofs.Sets.{everyone-has}
-use Rattle.system.specs.declared.Variables.{Variables}
 use Rattle.system.specs.System.{variables_at}
 use Rattle.system.specs.Fresh.{fresh_variables, fresh_system}
 use Rattle.step.proofs.Beginning.{fresh_variables_lem, nothing_waits}

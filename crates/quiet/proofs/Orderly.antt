@@ -1,23 +1,20 @@
 -- All that is so of every system that events reach from a fresh one: each step, whole or cut, done or refused, keeps it.
 use Prim.Native.Nat.{ℕ}
-use mathlib.Core.Path.{◌≡◌, refl, sym, ◌∙◌, ap, subst}
-use mathlib.Core.Bool.{Bool, false}
+use mathlib.Core.Path.{◌≡◌, refl, ◌∙◌}
+use mathlib.Core.Bool.{Bool}
 use mathlib.Core.List.{List, [], ◌∷◌, ◌++◌, append-nil, append_assoc}
 use native.Mathlib.Omega.{arith}
 use borrow.Author.Tests.{ne_eqb}
 use lib.Dec.{eqb}
 use Rattle.view.specs.Logic.{pick}
-use Rattle.view.proofs.Laws.{by_number}
-use Rattle.system.specs.declared.Process.{Process}
 use Rattle.system.specs.declared.System.{System}
 use Rattle.system.specs.Outcome.{Outcome}
 use Rattle.system.specs.System.{variables_at}
 use Rattle.plan.specs.declared.Action.{Action}
 use Rattle.plan.specs.declared.Step.{Step}
-use Rattle.step.specs.Scope.{scope_of}
 use Rattle.step.specs.Step.{stepped, Event, does, happened, ran}
 use Rattle.step.proofs.Soundness.{Valid}
-use Rattle.step.proofs.Cases.{Transition, outline}
+use Rattle.step.proofs.Cases.{Transition}
 use Rattle.step.proofs.Inversion.{by_outcome}
 use Rattle.step.proofs.SoundSteps.{event_valid}
 use Rattle.step.proofs.Outcomes.{size_kept}

@@ -21,7 +21,7 @@ use Rattle.plan.specs.declared.Change.{Change}
 use Rattle.plan.specs.declared.Action.{Action}
 use Rattle.plan.specs.declared.Action.TheVariants.{Report, Receive, Respond, Crash}
 use Rattle.plan.specs.Plan.{no_message}
-use Rattle.step.proofs.Cases.{waiting_at, Known, Taken, stays, grows, empties, Effect, Transition, proposes, follows, records, reproposes, ignores, marks, commits, enters, accepts, declines, crashes}
+use Rattle.step.proofs.Cases.{waiting_at, Known, Taken, Effect, Transition, proposes, follows, records, reproposes, ignores, marks, commits, enters, accepts, declines, crashes}
 use Rattle.step.proofs.Effects.{Part, all_left, taken_left, each_process, each_message, each_pending}
 use Rattle.step.proofs.Beginning.{nothing_recorded, nothing_waits}
 use Rattle.agreement.specs.Accepted.{Acceptance}

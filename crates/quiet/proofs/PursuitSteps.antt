@@ -1,6 +1,6 @@
 -- Each transition keeps what is so of the last proposals.
 use Prim.Native.Nat.{ℕ, ◌≤◌}
-use mathlib.Core.Path.{◌≡◌, refl, sym, ◌∙◌, ap, subst}
+use mathlib.Core.Path.{◌≡◌, refl, sym, ◌∙◌, subst}
 use mathlib.Core.Bool.{Bool, true, false}
 use mathlib.Core.List.{List}
 use mathlib.Core.Logic.{inl, inr}
@@ -15,7 +15,6 @@ use Rattle.view.proofs.Sets.{has_none, not_empty, subset-has, with_new, with_old
 use Rattle.channel.specs.declared.Message.{Message}
 use Rattle.channel.specs.declared.Message.TheVariants.{Propose}
 use Rattle.system.specs.declared.Variables.{Variables}
-use Rattle.system.specs.declared.Process.{Process}
 use Rattle.system.specs.declared.System.{System}
 use Rattle.system.specs.Process.{entry_at, with_entry, pending_at, Pending, proposal_of}
 use Rattle.system.specs.System.{process_at, variables_at, entry_in}
@@ -23,7 +22,6 @@ use Rattle.plan.specs.declared.Change.{Change}
 use Rattle.plan.specs.declared.Action.{Action}
 use Rattle.plan.specs.declared.Action.TheVariants.{Report, Receive, Respond, Crash}
 use Rattle.step.proofs.Cases.{waiting_at, Known, Taken, afterwards, Effect, Marking, present, stale, Records, Transition, proposes, follows, records, reproposes, ignores, marks, commits, enters, accepts, declines, crashes}
-use Rattle.step.proofs.Effects.{each_process}
 use Rattle.agreement.specs.Accepted.{Acceptance}
 use Rattle.agreement.proofs.Invariant.{Reached}
 use Rattle.agreement.proofs.Changes.{Since, at_actor}

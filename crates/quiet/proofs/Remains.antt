@@ -1,9 +1,9 @@
 -- What remains after an effect: of the messages that wait for a live process, of what is recorded, and of the variables.
-use Prim.Native.Nat.{ℕ, zero, suc}
-use mathlib.Core.Path.{◌≡◌, refl, sym, ◌∙◌, ap, subst}
+use Prim.Native.Nat.{ℕ}
+use mathlib.Core.Path.{◌≡◌, sym, ◌∙◌, ap, subst}
 use mathlib.Core.Bool.{Bool, true, false}
 use mathlib.Core.List.{List, [], ◌∷◌, ◌++◌}
-use mathlib.Core.Logic.{◌⊎◌, inl, inr, ⊎_elim}
+use mathlib.Core.Logic.{◌⊎◌}
 use native.Mathlib.Omega.{arith}
 use Rattle.std.specs.Prelude.{None, Any}
 use Rattle.std.proofs.lemmas.Grind.{common_steps}

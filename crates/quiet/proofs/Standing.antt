@@ -4,13 +4,12 @@ use Prim.Native.Nat.{ℕ, ◌≤◌, ◌<◌, ◌+◌}
 use mathlib.Core.Path.{◌≡◌, sym, ◌∙◌, ap, subst}
 use mathlib.Core.Bool.{Bool, true, false, not}
 use mathlib.Core.List.{List, [], ◌∷◌, ◌++◌}
-use mathlib.Core.Logic.{◌⊎◌, inl, inr, ⊎_elim}
+use mathlib.Core.Logic.{⊎_elim}
 use native.Mathlib.Omega.{arith}
 use Rattle.view.specs.declared.GroupIndex.{GroupIndex}
 use Rattle.view.specs.View.{has, everyone, least_of}
 use Rattle.view.proofs.Laws.{by_number, by_test, true_is_not_false}
 use Rattle.system.specs.declared.Variables.{Variables}
-use Rattle.system.specs.declared.Process.{Process}
 use Rattle.system.specs.declared.System.{System}
 use Rattle.system.specs.System.{variables_at, may_trust}
 use Rattle.step.proofs.Cases.{SameTrust}

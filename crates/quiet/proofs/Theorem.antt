@@ -7,9 +7,7 @@ use native.Mathlib.Omega.{arith}
 use Rattle.view.specs.Logic.{is_one_of}
 use Rattle.view.specs.View.{has, everyone}
 use Rattle.view.specs.Logic.{pick}
-use Rattle.view.proofs.Laws.{by_pick}
 use Rattle.view.proofs.Sets.{has_number, has_inside}
-use Rattle.system.specs.Outcome.{Outcome}
 use Rattle.system.specs.Fresh.{fresh_system, fresh_of}
 use Rattle.step.specs.Step.{Event, ran}
 use Rattle.step.specs.Rest.{at_rest}

@@ -7,7 +7,6 @@ use native.Mathlib.Omega.{arith}
 use Rattle.view.specs.View.{has, least_of}
 use Rattle.view.proofs.Sets.{not_empty}
 use Rattle.channel.specs.declared.Message.{Message}
-use Rattle.system.specs.declared.Process.{Process}
 use Rattle.system.specs.declared.System.{System}
 use Rattle.system.specs.System.{process_at, variables_at, may_trust}
 use Rattle.plan.specs.declared.Change.{Change}

@@ -1,15 +1,15 @@
 -- Laws of the least process of a view, of parts of a view and of the view of all.
 use Prim.Native.Nat.{ℕ, zero, suc, ◌≤◌, ◌<◌, ◌+◌, ◌-◌, ◌/◌, ◌%◌, ◌^◌, min}
-use mathlib.Core.Path.{◌≡◌, refl, sym, ◌∙◌, ap, subst}
+use mathlib.Core.Path.{◌≡◌, refl, sym, ◌∙◌, subst}
 use mathlib.Core.Bool.{true, false}
 use native.Mathlib.Omega.{arith}
-use native.Mathlib.Nat.{min-eq_left, pow-suc, pow-succ', div-div-eq-div-mul}
+use native.Mathlib.Nat.{min-eq_left, pow-suc, div-div-eq-div-mul}
 use borrow.Author.Tests.{eqb-true, eq-eqb}
 use lib.Dec.{eqb}
-use lib.Bits.{bit_and, and_step, and_zero_l}
+use lib.Bits.{bit_and, and_step}
 use Rattle.view.specs.Logic.{pick, is_one_of}
 use Rattle.view.specs.View.{has, subset, everyone, first_from, least_of}
-use Rattle.view.proofs.Laws.{by_pick, by_number, and_right, and_intro, true_is_not_false, one_of, is_one_of_lem}
+use Rattle.view.proofs.Laws.{by_pick, by_number, true_is_not_false, one_of}
 use Rattle.view.proofs.Sets.{has_number}
 use Rattle.view.proofs.Table.{below}
 
