@@ -140,12 +140,7 @@ module _ (next : System → List Run) (s : System) where
     after_move : (o : Action) → is_move o ≡ true → (stepped s (whole o)).refusal ≡ 0 → (q : Run) → Traced is_rest d (stepped s (whole o)).system q
         → Traced (is_run_by is_move is_rest) (suc d) s (begun_with (make o) q)
     unfolding is_run_by may_choose chosen events_of ran happened
-    after_move o kind done q t =
-        record {
-          deep = ap suc t.deep;
-          runs_by = and_intro (and_intro kind (eq-eqb (stepped s (whole o)).refusal 0 done)) t.runs_by;
-          end = t.end;
-        }
+    after_move o kind done q t = grind (arith, and_intro)
 
     pub turn_each : all_pass is_move os ≡ true → ((t : System) (r : Run) → Memᴰ r (next t) → Traced is_rest d t r)
         → (r : Run) → Memᴰ r (turned next s os) → Traced (is_run_by is_move is_rest) (suc d) s r

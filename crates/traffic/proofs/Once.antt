@@ -44,12 +44,7 @@ committed_spent {s} {t} {q} c k z =
 -- ---- at the start
 pub fresh_spent : (n q : ℕ) → 1 ≤ q → q ≤ 8 → Spent (fresh_system n) q 1
 unfolding fresh_process fresh_variables own_accs count
-fresh_spent n q low high =
-    let none : (i : ℕ) → own_accs (fresh_system n) q i ≡ 0 = λ i. ap (count (acc_at i)) (nothing_waits n q q) in
-    spent_as _ (fresh_process_lem n q low high)
-    (λ i. omega (arith, none i))
-    (omega (arith, none 1, unmarked q, is_self 1, is_below_lem 1 2 (omega arith)))
-    (omega arith)
+fresh_spent n q low high = grind (arith, own_accs, count, acc_at, nothing_waits, spent_as, fresh_process_lem, unmarked, is_self, is_below_lem)
 
 -- ---- one proposal is committed once
 module _ (n : ℕ) (e : is_one_of 8 n ≡ true) (es : List Event) (first : Event) (more : List Event) (second : Event) (q : ℕ) where

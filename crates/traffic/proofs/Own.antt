@@ -95,13 +95,7 @@ module _ {s t : System} {left : ℕ → ℕ → List Message} {p : ℕ} {c : Cha
     -- every other process
     other_spent : (q : ℕ) → (q ≡ p → ⊥) → (k : ℕ) → Spent s q k → Spent t q k
     unfolding mark own_accs
-    other_spent q h k z =
-        let lighter : (i : ℕ) → own_accs t q i ≤ own_accs s q i =
-        λ i. omega (arith, weighs f (acc_at i) q q 0 (λ e. absurd (h e)), fewer (acc_at i) q q) in
-        spent_as (process_at s q) (f.others q h)
-        (λ i. omega (arith, lighter i, z.accs i))
-        (omega (arith, lighter (variables_at s q).propout.0, z.once))
-        z.past
+    other_spent q h k z = grind (arith, weighs, spent_as)
 
     module _ (light : (i : ℕ) → acc_at i m ≡ 0) (k : ℕ) (z : Spent s p k) where
       own_fewer : (i : ℕ) → own_accs t p i ≤ own_accs s p i
