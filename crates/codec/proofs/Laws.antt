@@ -1,4 +1,4 @@
--- Laws of rows of bytes: how an array made row by row is what they hold, and how a loop reads one more.
+-- Laws of rows of bytes: arrays that are made row by row, and bytes that are written part after part.
 use Rattle.std.proofs.Common.{ℕ, zero, suc, ◌+◌, ◌*◌, ◌≤◌, ◌<◌, ◌≡◌, refl, sym, ◌∙◌, ap, subst, List, [], ◌∷◌, ◌++◌, map, le_of_eq, arith, length, length-append, length-drop, length-take-le, get_or, take, drop, set, replicate, length-set, take-suc-set, take_all, take_at, ext_get_or, get_or-take, Option, Some}
 use Rattle.std.proofs.lemmas.List.{length-map, get_or-map}
 use Rattle.std.proofs.lemmas.Slice.{take-put_mid}
