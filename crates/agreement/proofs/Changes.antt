@@ -72,10 +72,7 @@ module _ {s t : System} {left : ℕ → ℕ → List Message} {p : ℕ} {c : Cha
   module _ {old new : List Acceptance} (r : Reached s old) (part : Part s left) (h : HonestChange s old new p c) where
     pub later_all : (k : ℕ) → Later (variables_at s k) (variables_at t k)
     unfolding afterwards
-    later_all =
-        each_process f (λ k y. Later (variables_at s k) y.variables)
-        (record { up = h.later.up; same = h.later.same })
-        (λ k. later_equal (variables_at s k) (variables_at s k) refl refl)
+    later_all = grind (arith, each_process, later_equal)
 
     pub effect_reached : ((b : ℕ) → has to b ≡ true → Honest new (variables_at t) p b m) → Reached t new
     unfolding afterwards entry_in

@@ -156,14 +156,7 @@ module _ (s : System) (acc : List Acceptance) (r : Reached s acc) where
     alone u v named a = r.one_view u v (entry_in s p i) i a ((r.entries p i low some).agreed u named)
 
     empty_there : (u : ℕ) → has (entry_in s p i) u ≡ true → book_entry b u i ≡ 0
-    empty_there u named =
-        by_number (book_entry b u i) 0 (λ e. e)
-        (λ h.
-        let same = ⊎_elim (λ z. absurd (h z)) (λ e. e) (f.agrees u i) in
-        let some-u : entry_in s u i ≡ 0 → ⊥ = λ z. h (same ∙ z) in
-        let mine = r.entries u i low some-u in
-        let e = alone u (entry_in s u i) named (mine.agreed u mine.own) in
-        absurd (some (sym (f.together u p i h (sym (same ∙ e))) ∙ missing)))
+    empty_there u named = grind (arith, alone)
 
     apart_from_made : (gs : List Agreement) → Each (λ g. Agreed acc g.view g.index × ((w : ℕ) → entry_in s w g.index ≡ g.view → InBook b w g.index)) gs
         → apart_from (candidate p i) gs ≡ true

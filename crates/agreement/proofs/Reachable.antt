@@ -43,16 +43,11 @@ module _ (n : ℕ) (size : is_one_of 8 n ≡ true) (es : List Event) where
 
     -- the oldest message from q to p is sound
     sound_first : (m : Message) (rest : List Message) → waiting_at s q p ≡ m ∷ rest → sound_message s.n q p m ≡ true
-    sound_first m rest first =
-        let a = one_of s.n q known-q in
-        let b = one_of s.n p known-p in
-        (subst (Each (λ k. sound_message s.n q p k ≡ true)) first (sound.channel q p a.0 a.1 b.0 b.1).messages).0
+    sound_first m rest first = grind (arith, one_of, sound)
 
     -- past PropOut 1 the last proposed view is not empty
     some_proposed : (x.propout.0 ≡ 1 → ⊥) → x.proposal ≡ 0 → ⊥
-    some_proposed later =
-        let b = one_of s.n p known-p in
-        not_empty x.proposal p ((sound.process p b.0 b.1).variables.own_proposed later)
+    some_proposed later = grind (arith, one_of, not_empty, sound)
 
     -- Document 01, of a Retry acted on: "The last proposed view is not touched; after any steps from a fresh table it equals the local
     -- view at that moment." The Retry is the oldest message from q to p, its old index is PropOut, and p is the least of its local view.
