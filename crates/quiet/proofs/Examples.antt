@@ -1,5 +1,5 @@
 -- The examples, computed; and the theorem, applied to them.
-use mathlib.Core.Path.{◌≡◌, refl, ◌∙◌, ap}
+use mathlib.Core.Path.{◌≡◌, refl, ap}
 use mathlib.Core.Bool.{true}
 use mathlib.Core.List.{[], ◌∷◌}
 use native.Mathlib.Omega.{arith}
@@ -90,11 +90,7 @@ both_named = (refl, refl)
 
 not_final : (s : System) (x : Seen) → seen s 3 (1 ∷ 2 ∷ []) ≡ x → x.last ≡ 1 ∷ 2 ∷ [] → Final s 3 → ⊥
 unfolding seen
-not_final s x e l final =
-    let last : last_non_empty s 1 ∷ last_non_empty s 2 ∷ [] ≡ 1 ∷ 2 ∷ [] = ap (λ (y : Seen). y.last) e ∙ l in
-    let one : last_non_empty s 1 ≡ 1 = cc in
-    let two : last_non_empty s 2 ≡ 2 = cc in
-    omega (arith, final.same 1 2 both_named.0 both_named.1)
+not_final s x e l final = grind (arith, both_named)
 
 pub needed : Needed
 needed = record { refused = hand_refused; sound = hand_sound; ends = hand_ends; refuted = not_final _ _ hand_ends refl }

@@ -8,7 +8,7 @@ use native.Mathlib.Omega.{arith}
 use Rattle.std.specs.Prelude.{None, Any}
 use Rattle.std.proofs.lemmas.Grind.{common_steps}
 use Rattle.view.specs.Logic.{put}
-use Rattle.view.proofs.Laws.{by_number, true_is_not_false, at_put_same, at_put_other}
+use Rattle.view.proofs.Laws.{true_is_not_false, at_put_same, at_put_other}
 use Rattle.channel.specs.declared.Message.{Message}
 use Rattle.system.specs.declared.Process.{Process}
 use Rattle.system.specs.declared.System.{System}
@@ -65,12 +65,7 @@ module _ {s t : System} {left : ℕ → ℕ → List Message} {p : ℕ} {c : Cha
   recorded_new shape known = grind (arith, at_put_same)
 
   pub recorded_other : (u j : ℕ) → ((u ≡ p) × (j ≡ c.proposer.0) → ⊥) → pending_at (process_at t u) j ≡ pending_at (process_at s u) j
-  recorded_other u j h =
-      by_number u p
-      (λ e.
-      subst (λ (k : ℕ). pending_at (process_at t k) j ≡ pending_at (process_at s k) j) (sym e)
-      (ap (λ (x : Process). pending_at x j) f.actor ∙ recorded_away (process_at s p) c stops j (λ z. h (e, z))))
-      (λ n. ap (λ (x : Process). pending_at x j) (f.others u n))
+  recorded_other u j h = grind (arith, recorded_away)
 
   -- no record is made or cleared
   pub recorded_same : c.proposer.0 ≡ 0 → (u j : ℕ) → pending_at (process_at t u) j ≡ pending_at (process_at s u) j

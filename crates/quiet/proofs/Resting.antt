@@ -4,7 +4,6 @@ use Prim.Native.Nat.{ℕ, zero, suc, ◌≤◌, ◌<◌, ◌+◌}
 use mathlib.Core.Path.{◌≡◌, refl, sym, ◌∙◌, ap, subst}
 use mathlib.Core.Bool.{Bool, true, false, ◌&&◌, not}
 use mathlib.Core.List.{List, []}
-use mathlib.Core.Logic.{⊎_elim}
 use native.Mathlib.Omega.{arith}
 use borrow.Author.Tests.{eqb-true, eq-eqb, ne_eqb, ltb-true, not-true}
 use lib.Dec.{eqb, ltb}
@@ -167,9 +166,7 @@ module _ {s : System} {acc : List Acceptance} (orderly : Orderly s acc) (sound :
     only_written u h (written e) = e ∙ this_view
 
     agreed_written : (u : ℕ) → has v u ≡ true → entry_in s u (variables_at s (least_of v).0).propout.0 ≡ v
-    agreed_written u h =
-        ⊎_elim (λ under. absurd (not_underway under)) (λ done. only_written u h (done u (rw this_view h) (common.live u h)))
-        (orderly.pursuit.pursued p (common.live p leader) proposed least)
+    agreed_written u h = grind (arith, not_underway, only_written, this_view, least)
 
     agreed_accepted : (u : ℕ) → has v u ≡ true → accepted acc u v (variables_at s (least_of v).0).propout.0 ≡ true
     agreed_accepted u h =

@@ -2,13 +2,13 @@
 -- turn keeps it. "Gone" is who has stopped at some time; of those nothing is said.
 use Prim.Native.Nat.{ℕ, ◌≤◌, ◌<◌, ◌+◌}
 use mathlib.Core.Path.{◌≡◌, sym, ◌∙◌, ap, subst}
-use mathlib.Core.Bool.{Bool, true, false, not}
+use mathlib.Core.Bool.{Bool, true, false}
 use mathlib.Core.List.{List, [], ◌∷◌, ◌++◌}
 use mathlib.Core.Logic.{⊎_elim}
 use native.Mathlib.Omega.{arith}
 use Rattle.view.specs.declared.GroupIndex.{GroupIndex}
 use Rattle.view.specs.View.{has, everyone, least_of}
-use Rattle.view.proofs.Laws.{by_number, by_test, true_is_not_false}
+use Rattle.view.proofs.Laws.{by_number, true_is_not_false}
 use Rattle.system.specs.declared.Variables.{Variables}
 use Rattle.system.specs.declared.System.{System}
 use Rattle.system.specs.System.{variables_at, may_trust}
@@ -75,9 +75,7 @@ module _ {gone then : ℕ → Bool} (still-gone : (k : ℕ) → then k ≡ false
 
     accepts_before : (u : ℕ) → accepted new u (variables_at t p).view (variables_at t p).propout.0 ≡ true
         → accepted new u (variables_at s p).view (variables_at s p).propout.0 ≡ true
-    accepts_before u e =
-        subst (λ (i : GroupIndex). accepted new u (variables_at s p).view i.0 ≡ true) steady.propout
-        (subst (λ (v : ℕ). accepted new u v (variables_at t p).propout.0 ≡ true) steady.view e)
+    accepts_before u e = grind (arith, steady)
 
   -- ---- Next of who has accepted its own last proposal
   -- the others have accepted nothing more
@@ -121,14 +119,7 @@ module _ {gone then : ℕ → Bool} (still-gone : (k : ℕ) → then k ≡ false
     steady = leader_steady p u f.least f.accepts
 
     followed : accepted acc u (variables_at s p).view (variables_at s p).propout.0 ≡ true → Followed gone s acc p u
-    followed e =
-        record {
-          leader_stays = still-gone p f.leader_stays;
-          stays = still-gone u f.stays;
-          apart = f.apart;
-          least = least_before p steady f.least;
-          accepts = e;
-        }
+    followed e = grind (arith, least_before, steady)
 
     before : accepted new u (variables_at s p).view (variables_at s p).propout.0 ≡ true
     before = accepts_before p steady u f.accepts
@@ -141,33 +132,11 @@ module _ {gone then : ℕ → Bool} (still-gone : (k : ℕ) → then k ≡ false
         → may_trust t u p ≡ may_trust s u p
         → ((w j : ℕ) → accepted new u w j ≡ true → accepted acc u w j ≡ true)
         → Loyal t new p u
-    unchanged e view trust old =
-        let l = z.loyal p u (followed e) in
-        record {
-          untrusted = λ lacks. trust ∙ l.untrusted (rw view at lacks);
-          included = λ named w j above a. l.included (rw view at named) w j (past j above) (old w j a);
-        }
+    unchanged e view trust old = grind (arith, followed, past)
 
     -- u is told a view: if p leaves it, p's own view has u; and p is not brought back
     reporting : u ≡ a → Bringing s t a (variables_at t a).view → new ≡ acc → Loyal t new p u
-    reporting i b same =
-        let e = rw same at before in
-        let l = z.loyal p u (followed e) in
-        let view = (variables_at t u).view in
-        let bringing : Bringing s t u view = rw (← i) at b in
-        let has-u : has (variables_at s p).view u ≡ true = r.member u _ _ e in
-        record {
-          untrusted = λ lacks.
-              by_test (has (variables_at s u).view p)
-              (λ had. bringing.doubts.begins p had lacks ∙ ap not has-u)
-              (λ lacked.
-              bringing.doubts.rest u p (λ x had lacking. true_is_not_false (sym had ∙ lacked)) (λ x. absurd (f.apart (sym x)))
-              ∙ l.untrusted lacked);
-          included = λ named w j above took.
-              by_test (has (variables_at s u).view p)
-              (λ had. l.included had w j (past j above) (rw same at took))
-              (λ lacked. true_is_not_false (sym (bringing.trusted p named lacked) ∙ l.untrusted lacked));
-        }
+    reporting i b same = grind (arith, before, followed, true_is_not_false, past)
 
     -- u accepts its local view at index i
     accepting : u ≡ a → (i : ℕ) → Steady s t a → has (variables_at s a).view a ≡ true → (variables_at s a).next.0 ≤ i → SameTrust s t
