@@ -1,57 +1,41 @@
 -- Of every line: it is good exactly if it is allowed, and else it is bad at its column; what it says is read off a form that it is
 -- written in.
 use Prim.Native.Char.{code}
-use Prim.Native.Nat.{ℕ, zero, suc, ◌+◌, ◌-◌, ◌<◌}
+use Prim.Native.Nat.{ℕ}
 use mathlib.Core.Path.{◌≡◌, refl, sym, ◌∙◌, ap, subst}
 use mathlib.Core.Bool.{Bool, true, false}
 use mathlib.Core.List.{List, [], ◌∷◌, ◌++◌, flat_map, append-nil, append_assoc}
 use native.Mathlib.Omega.{arith}
-use borrow.Author.Tests.{leb-true, eqb-true}
-use lib.Dec.{leb, eqb}
-use lib.ListN.{length, get_or}
+use borrow.Author.Tests.{eqb-true}
+use lib.Dec.{eqb}
+use lib.ListN.{get_or}
 use Rattle.view.specs.Logic.{pick, is_one_of}
 use Rattle.view.specs.View.{with}
-use Rattle.view.proofs.Laws.{and_left, and_right, is_one_of_lem}
+use Rattle.view.proofs.Laws.{is_one_of_lem}
 use Rattle.print.specs.Text.{bytes}
 use Rattle.std.specs.Prelude.{Result, Ok, Err, is_ok}
 use Rattle.sheet.specs.declared.parse.BadFrom.{BadFrom}
 use Rattle.sheet.specs.Grammar.{Piece, byte, size, digit, view, more, Form, form, is_digit, rises, value_of, when, passed, ended, onward, ends_as, followed, readings, some, allowed, column, bad_from, first_reading, read}
-use Rattle.sheet.specs.Parse.{◌>>=◌, first_forms, later_forms, opened, parsed, stands, follow, fits, digit_at}
+use Rattle.sheet.specs.Parse.{first_forms, later_forms, opened, parsed}
+use Rattle.sheet.specs.Cursor.{◌>>=◌, byte_at, text_at, end_at}
 use Rattle.sheet.proofs.Forms.{bad, in_first_lem, in_second, byte-read, view_ends}
+use Rattle.sheet.proofs.Parsing.{byte_is}
 use Rattle.sheet.proofs.FirstBytes.{first_read}
 
 -- ---- a good first line asks for 1 to 8 processes
-fits_at : (f l : List ℕ) (k at i : ℕ) → follow f k l ≡ Ok at → i < length f → stands (get_or f i 0) (get_or l i 0) ≡ true
-unfolding follow pick
-fits_at [] l k at i e h = absurd (omega arith)
-fits_at (f ∷ fs) [] k at i e h = let never : ⊥ = cc in absurd never
-fits_at (f ∷ fs) (b ∷ bs) k at i e h = by (stands f b) refl e i h (fits_at fs bs (suc k) at)
-  where
-    by : (t : Bool) → stands f b ≡ t → pick t (follow fs (suc k) bs) (bad (k + 1)) ≡ Ok at → (i : ℕ) → i < suc (length fs)
-        → ((j : ℕ) → follow fs (suc k) bs ≡ Ok at → j < length fs → stands (get_or fs j 0) (get_or bs j 0) ≡ true)
-        → stands (get_or (f ∷ fs) i 0) (get_or (b ∷ bs) i 0) ≡ true
-    by true s e zero h rest = s
-    by true s e (suc i) h rest = rest i e (omega arith)
-    by false s e i h rest = let never : ⊥ = cc in absurd never
-
-good_size : (b : ℕ) → stands 78 b ≡ true → is_one_of 8 (b - 48) ≡ true
-unfolding stands pick
-good_size b e =
-    is_one_of_lem 8 (b - 48) (omega (arith, leb-true 49 b (and_left (leb 49 b) (leb b 56) e))) (omega (arith, leb-true b 56 (and_right (leb 49 b) (leb b 56) e)))
+by_then : {A B C : Type 0} (r : Result A BadFrom) (f : A → Result B BadFrom) (b : B) → (r >>= f) ≡ Ok b → ((a : A) → r ≡ Ok a → f a ≡ Ok b → C) → C
+by_then (Ok a) f b e so = so a refl e
+by_then (Err bad) f b e so = let never : ⊥ = cc in absurd never
 
 pub fresh_size : (l : List ℕ) (n : ℕ) → opened l ≡ Ok n → is_one_of 8 n ≡ true
-unfolding bytes digit_at fits pick
-fresh_size l n e = by (follow (bytes "u N") 0 l) refl (sym (first_read l) ∙ e)
-  where
-    ends_there : (at : ℕ) → follow (bytes "u N") 0 l ≡ Ok at → (t : Bool)
-        → (pick t (Ok (tt {0})) (bad (at + 1)) >>= λ end. Ok (get_or l 2 0 - 48)) ≡ Ok n → is_one_of 8 n ≡ true
-    ends_there at to true e = let same : get_or l 2 0 - 48 ≡ n = cc in rw (← same) (good_size (get_or l 2 0) (fits_at (bytes "u N") l 0 at 2 to (omega arith)))
-    ends_there at to false e = let never : ⊥ = cc in absurd never
-
-    by : (r : Result ℕ BadFrom) → follow (bytes "u N") 0 l ≡ r
-        → (r >>= (λ end. pick (eqb (length l) end) (Ok (tt {0})) (bad (end + 1))) >>= λ end. Ok (get_or l 2 0 - 48)) ≡ Ok n → is_one_of 8 n ≡ true
-    by (Err b) to e = let never : ⊥ = cc in absurd never
-    by (Ok at) to e = ends_there at to (eqb (length l) at) e
+fresh_size l n e =
+    by_then (text_at (bytes "u ") l 0) _ n (sym (first_read l) ∙ e)
+    (λ s so e. by_then (byte_at 49 56 l s.1) _ n e
+    (λ b there e. by_then (end_at l b.1) _ n e
+    (λ end over e.
+    let same : value_of b.0 ≡ n = cc in
+    let byte = byte_is 49 56 l s.1 b.0 b.1 there in
+    rw (← same) (is_one_of_lem 8 (value_of b.0) (omega (arith, byte.low_enough)) (omega (arith, byte.high_enough))))))
 
 -- ---- the texts that a form stands for, with the values of their fields
 pub data Written : List Piece → List ℕ → List ℕ → Type 0 where

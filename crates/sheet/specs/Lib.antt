@@ -3,4 +3,5 @@ pub mod Lines
 pub mod Reader
 pub mod Grammar
 pub mod Parse
+pub mod Cursor
 pub mod Examples
