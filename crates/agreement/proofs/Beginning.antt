@@ -1,32 +1,21 @@
--- A fresh system is reached by no steps at all, with nothing accepted; and its entries.
+-- A fresh system is reached by no steps at all, with nothing accepted.
 use Prim.Native.Nat.{ℕ, ◌≤◌}
 use mathlib.Core.Path.{◌≡◌, refl, sym, ◌∙◌}
 use mathlib.Core.List.{[]}
-use mathlib.Core.Logic.{◌⊎◌, inl, inr, ⊎_elim}
+use mathlib.Core.Logic.{⊎_elim}
 use native.Mathlib.Omega.{arith}
-use Rattle.view.specs.View.{everyone}
 use Rattle.view.specs.Logic.{pick}
 use Rattle.view.proofs.Laws.{true_is_not_false}
 use Rattle.system.specs.declared.Process.{Process}
 use Rattle.system.specs.declared.System.{System}
-use Rattle.system.specs.Process.{entry_at}
 use Rattle.system.specs.System.{no_process, variables_at, entry_in}
 use Rattle.system.specs.Fresh.{fresh_variables, fresh_process, fresh_system, fresh_of}
-use Rattle.step.proofs.Beginning.{each_fresh, empty_past_first, first_entry, no_entry, nothing_recorded, nothing_waits, fresh_shape}
+use Rattle.step.proofs.Beginning.{each_fresh, nothing_entered, first_or_none, nothing_recorded, nothing_waits, fresh_shape}
 use Rattle.agreement.specs.Accepted.{accepted}
 use Rattle.agreement.specs.Demand.{start}
 use Rattle.agreement.proofs.Invariant.{Reached}
 
 module _ (n : ℕ) where
-  fresh_empty : (p i : ℕ) → 2 ≤ i → entry_in (fresh_system n) p i ≡ 0
-  unfolding entry_in fresh_process no_process
-  fresh_empty p i l = each_fresh n (λ (x : Process). entry_at x.history i ≡ 0) (empty_past_first n i l) (no_entry i) p
-
-  fresh_first : (p : ℕ) → (entry_in (fresh_system n) p 1 ≡ everyone n) ⊎ (entry_in (fresh_system n) p 1 ≡ 0)
-  unfolding entry_in fresh_process no_process
-  fresh_first p =
-      each_fresh n (λ (x : Process). (entry_at x.history 1 ≡ everyone n) ⊎ (entry_at x.history 1 ≡ 0)) (inl (first_entry n)) (inr (no_entry 1)) p
-
   -- nothing is proposed
   pub fresh_proposal : (p : ℕ) → (variables_at (fresh_system n) p).proposal ≡ 0
   unfolding fresh_variables fresh_process no_process
@@ -43,7 +32,7 @@ module _ (n : ℕ) where
         own = λ p. record { marks = λ u some. absurd (some (fresh_proposal p)); leads = λ some. absurd (some (fresh_proposal p)) };
         recorded = λ u q. rw (nothing_recorded n u q) tt;
         messages = λ q p. rw (nothing_waits n q p) tt;
-        entries = λ p i low some. absurd (some (fresh_empty p i low));
+        entries = λ p i low some. absurd (some (nothing_entered n p i low));
       }
 
 -- ---- the system that a fresh one of any size starts with
@@ -55,11 +44,11 @@ pub start_reached : (n : ℕ) → Reached (start n) []
 start_reached = started (λ s. Reached s []) fresh_reached
 
 pub start-empty : (n p i : ℕ) → 2 ≤ i → entry_in (start n) p i ≡ 0
-start-empty n p i l = started (λ s. entry_in s p i ≡ 0) (λ m. fresh_empty m p i l) n
+start-empty n p i l = started (λ s. entry_in s p i ≡ 0) (λ m. nothing_entered m p i l) n
 
 -- at index 1 each process has one and the same view, or none
 pub start_first : (n p q : ℕ) → (entry_in (start n) p 1 ≡ 0 → ⊥) → (entry_in (start n) q 1 ≡ 0 → ⊥) → entry_in (start n) p 1 ≡ entry_in (start n) q 1
 start_first n p q =
     started (λ s. (entry_in s p 1 ≡ 0 → ⊥) → (entry_in s q 1 ≡ 0 → ⊥) → entry_in s p 1 ≡ entry_in s q 1)
-    (λ m hp hq. ⊎_elim (λ a. ⊎_elim (λ b. a ∙ sym b) (λ z. absurd (hq z)) (fresh_first m q)) (λ z. absurd (hp z)) (fresh_first m p))
+    (λ m hp hq. ⊎_elim (λ a. ⊎_elim (λ b. a ∙ sym b) (λ z. absurd (hq z)) (first_or_none m q)) (λ z. absurd (hp z)) (first_or_none m p))
     n

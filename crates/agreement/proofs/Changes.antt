@@ -13,7 +13,7 @@ use Rattle.channel.specs.declared.Message.{Message}
 use Rattle.system.specs.declared.Variables.{Variables}
 use Rattle.system.specs.declared.Process.{Process}
 use Rattle.system.specs.declared.System.{System}
-use Rattle.system.specs.Process.{entry_at, pending_at, Pending}
+use Rattle.system.specs.Process.{pending_at, Pending}
 use Rattle.system.specs.System.{process_at, variables_at, entry_in}
 use Rattle.plan.specs.declared.Change.{Change}
 use Rattle.plan.specs.Plan.{recording, no_message}
@@ -75,7 +75,7 @@ module _ {s t : System} {left : ℕ → ℕ → List Message} {p : ℕ} {c : Cha
     later_all = grind (arith, each_process, later_equal)
 
     pub effect_reached : ((b : ℕ) → has to b ≡ true → Honest new (variables_at t) p b m) → Reached t new
-    unfolding afterwards entry_in
+    unfolding afterwards
     effect_reached honest =
         record {
           shape = f.shape;
@@ -103,25 +103,16 @@ module _ {s t : System} {left : ℕ → ℕ → List Message} {p : ℕ} {c : Cha
               (part (Honest old (variables_at s) a b) a b (r.messages a b)))
               (λ b named live. honest b named);
           entries =
-              each_process f (λ k y. (i : ℕ) → 2 ≤ i → (entry_at y.history i ≡ 0 → ⊥) → Entered new k i (entry_at y.history i))
-              (each_entry (λ i v. 2 ≤ i → (v ≡ 0 → ⊥) → Entered new p i v) (process_at s p) c stops (λ l low some. h.entered l)
-              (λ i low some. entered_later h.accepting.grown (r.entries p i low some)))
+              each_entry f (λ k i v. 2 ≤ i → (v ≡ 0 → ⊥) → Entered new k i v) (λ l low some. h.entered l)
               (λ k i low some. entered_later h.accepting.grown (r.entries k i low some));
         }
 
     -- an entry that is written again is the same: its process has accepted both
     pub effect_since : Since s t
-    unfolding entry_in
     effect_since =
         record {
-          first =
-              each_process f (λ k y. (i : ℕ) → i < 2 → entry_at y.history i ≡ entry_in s k i)
-              (each_entry (λ i v. i < 2 → v ≡ entry_in s p i) (process_at s p) c stops (λ l below. absurd (omega (arith, h.past l))) (λ i l. refl))
-              (λ k i l. refl);
-          written =
-              each_process f (λ k y. (i : ℕ) → (entry_in s k i ≡ 0 → ⊥) → entry_at y.history i ≡ entry_in s k i)
-              (each_entry (λ i v. (entry_in s p i ≡ 0 → ⊥) → v ≡ entry_in s p i) (process_at s p) c stops again (λ i l. refl))
-              (λ k i l. refl);
+          first = each_entry f (λ k i v. i < 2 → v ≡ entry_in s k i) (λ l below. absurd (omega (arith, h.past l))) (λ k i l. refl);
+          written = each_entry f (λ k i v. (entry_in s k i ≡ 0 → ⊥) → v ≡ entry_in s k i) again (λ k i l. refl);
         }
       where
         again : 1 ≤ c.index.0 → (entry_in s p c.index.0 ≡ 0 → ⊥) → c.entry ≡ entry_in s p c.index.0

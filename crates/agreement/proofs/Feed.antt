@@ -6,18 +6,15 @@ use mathlib.Core.Bool.{Bool, true, false, ◌&&◌, ◌||◌, not}
 use mathlib.Core.List.{List, [], ◌∷◌, ◌++◌}
 use mathlib.Core.Logic.{◌⊎◌, inl, inr, ⊎_elim}
 use native.Mathlib.Omega.{arith}
-use native.Mathlib.Decide.{dec_lt}
-use native.Mathlib.Nat.{lt_of_not-le}
+use native.Mathlib.Decide.{dec_le}
 use borrow.Author.Tests.{eqb-true, eq-eqb, eqb-false, ne_eqb, le-leb}
 use lib.Dec.{eqb}
-use Rattle.view.specs.Logic.{pick, all_up_to, each_up_to, at}
+use Rattle.view.specs.Logic.{pick, all_up_to, each_up_to}
 use Rattle.view.specs.View.{has, with}
-use Rattle.view.proofs.Laws.{and_intro, all_intro, all_elim, at_past, true_is_not_false, or_right, Each, by_number, by_pick, each_as, each_keeps}
-use Rattle.system.specs.declared.Process.{Process}
+use Rattle.view.proofs.Laws.{and_intro, all_intro, all_elim, true_is_not_false, or_right, Each, by_number, by_pick, each_as, each_keeps}
 use Rattle.system.specs.declared.System.{System}
-use Rattle.system.specs.Process.{entry_at}
-use Rattle.system.specs.System.{no_process, process_at, entry_in}
-use Rattle.step.proofs.Beginning.{no_entry}
+use Rattle.system.specs.System.{entry_in}
+use Rattle.system.proofs.Histories.{nobody_entry}
 use Rattle.agreement.specs.Accepted.{Acceptance, accepted}
 use Rattle.agreement.specs.Book.{Agreement, Book, book_entry, apart, apart_from, admits, made_in, fed, fed_all, none_refused}
 use Rattle.step.proofs.Frames.{Numbered}
@@ -87,16 +84,14 @@ made_same_book acc b (g ∷ gs) = go (admits acc b g) refl (made_same_book acc (
 module _ (s : System) (acc : List Acceptance) (r : Reached s acc) where
   -- a process of another number has no entries
   pub numbered_or_none : (w : ℕ) → Numbered w ⊎ ((j : ℕ) → entry_in s w j ≡ 0)
-  unfolding entry_in process_at at no_process
-  numbered_or_none zero = inr no_entry
-  numbered_or_none (suc w) =
-      elim (dec_lt w 8) [
-        | yes h ↦ inl (record { low = omega arith; high = h })
-        | no h ↦
-            inr
-            (λ j.
-            ap (λ (x : Process). entry_at x.history j) (at_past s.processes (suc w) no_process (omega (arith, r.shape.processes, lt_of_not-le h)))
-            ∙ no_entry j)
+  numbered_or_none w =
+      elim (dec_le 1 w) [
+        | yes l ↦
+            elim (dec_le w 8) [
+              | yes h ↦ inl (record { low = l; high = h })
+              | no h ↦ inr (nobody_entry s w (λ a b. h (omega (arith, r.shape.processes))))
+            ]
+        | no l ↦ inr (nobody_entry s w (λ a. absurd (l a)))
       ]
 
   -- ---- the processes that hold a view at an index

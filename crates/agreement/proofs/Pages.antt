@@ -1,16 +1,17 @@
 -- What a made agreement writes in the book: its view, at its index, for its recipients; nothing else changes.
 use Prim.Native.Nat.{ℕ, zero, suc, ◌≤◌}
-use mathlib.Core.Path.{◌≡◌, refl, sym, ◌∙◌, subst}
+use mathlib.Core.Path.{◌≡◌, sym, ◌∙◌, subst}
 use mathlib.Core.Bool.{true}
 use mathlib.Core.List.{List}
 use native.Mathlib.Omega.{arith}
 use lib.ListN.{length}
-use Rattle.view.specs.Logic.{each_up_to, at, put}
+use Rattle.view.specs.Logic.{each_up_to, at}
 use Rattle.view.specs.View.{has}
 use Rattle.view.proofs.Laws.{at_put_same, at_put_other, length-put, each_put, true_is_not_false, by_number, by_pick, each_keeps}
 use Rattle.view.proofs.Sets.{has_number}
 use Rattle.system.specs.declared.History.{History}
 use Rattle.system.specs.Process.{entry_at, with_entry, no_entries}
+use Rattle.system.proofs.Histories.{entry_long, entry_same, entry_other}
 use Rattle.agreement.specs.Book.{Agreement, written_in}
 
 -- eight histories of thirty-two entries
@@ -18,26 +19,19 @@ pub record Long (hs : List History) : Type 0 where
   pub histories : length hs ≡ 8
   pub entries : (p : ℕ) → length (at hs p no_entries).entries ≡ 32
 
--- of each element once a is put in at k: of a, and of each other
-each_put_but : {A : Type 0} (P : ℕ → A → Type 0) (l : List A) (k : ℕ) (a d : A) → 1 ≤ k → k ≤ length l → P k a
-    → ((j : ℕ) → (j ≡ k → ⊥) → P j (at l j d))
-    → (j : ℕ)
-    → P j (at (put l k a) j d)
-each_put_but P l k a d low high new old j = grind (arith, at_put_same, at_put_other)
-
 module _ (g : Agreement) where
   abbrev page : List History → ℕ → History
   page hs k = with_entry (at hs k no_entries) g.index g.view
 
   long_written : (k : ℕ) → 1 ≤ k → k ≤ 8 → (hs : List History) → Long hs → Long (written_in g k hs)
-  unfolding written_in with_entry
+  unfolding written_in
   long_written k l u hs long =
       by_pick Long _ _ _
       (λ named.
       record {
         histories = length-put hs k _ ∙ long.histories;
         entries = each_put (λ j (h : History). length h.entries ≡ 32) hs k (page hs k) no_entries
-            (λ a b. length-put (at hs k no_entries).entries g.index g.view ∙ long.entries k)
+            (λ a b. entry_long (at hs k no_entries) g.index g.view ∙ long.entries k)
             long.entries;
       })
       (λ un. long)
@@ -50,22 +44,17 @@ module _ (g : Agreement) where
     turn_entry : (hs : List History) → Long hs → (k : ℕ) → 1 ≤ k → k ≤ 8 → (has g.recipients k ≡ true → w ≡ k → j ≡ g.index → P g.view)
         → ((has g.recipients k ≡ true → w ≡ k → j ≡ g.index → ⊥) → P (entry_at (at hs w no_entries) j))
         → P (entry_at (at (written_in g k hs) w no_entries) j)
-    unfolding written_in entry_at with_entry
+    unfolding written_in
     turn_entry hs long k l u here there =
-        by_pick (λ (xs : List History). P (at (at xs w no_entries).entries j 0)) (has g.recipients k) _ hs
+        by_pick (λ (xs : List History). P (entry_at (at xs w no_entries) j)) (has g.recipients k) _ hs
         (λ named.
-        each_put_but (λ z (x : History). w ≡ z → P (at x.entries j 0)) hs k (page hs k) no_entries l (omega (arith, long.histories))
+        by_number w k
         (λ e.
-        each_put_but (λ i v. j ≡ i → P v) (at hs k no_entries).entries g.index g.view 0 low (omega (arith, long.entries k))
-        (here named e)
-        (λ i f q.
-        subst (λ (z : ℕ). P (at (at hs z no_entries).entries i 0)) e
-        (subst (λ (z : ℕ). P (at (at hs w no_entries).entries z 0)) q (there (λ h a b. f (sym q ∙ b)))))
-        j
-        refl)
-        (λ z f e. subst (λ (y : ℕ). P (at (at hs y no_entries).entries j 0)) e (there (λ h a b. f (sym e ∙ a))))
-        w
-        refl)
+        rw (e, at_put_same hs k (page hs k) no_entries l (omega (arith, long.histories)))
+        (by_number j g.index
+        (λ q. rw (q, entry_same (at hs k no_entries) g.index g.view low (omega (arith, long.entries k))) (here named e q))
+        (λ f. rw (entry_other (at hs k no_entries) g.index g.view j f, ← e) (there (λ h a b. f b)))))
+        (λ f. rw (at_put_other hs k w (page hs k) no_entries f) (there (λ h a b. f a))))
         (λ un. there (λ h a b. true_is_not_false (sym h ∙ un)))
 
     turns_entry : (hs : List History) → Long hs → (k : ℕ) → k ≤ 8 → (has g.recipients w ≡ true → w ≤ k → j ≡ g.index → P g.view)

@@ -17,10 +17,10 @@ use Rattle.system.specs.declared.System.{System}
 use Rattle.system.specs.System.{variables_at}
 use Rattle.system.specs.Fresh.{fresh_system}
 use Rattle.sound.specs.Sound.{sound_message}
-use Rattle.step.specs.Step.{Event, ran}
 use Rattle.step.proofs.Soundness.{Sound, sound_facts, retry_facts, acc_facts}
 use Rattle.step.proofs.Cases.{waiting_at}
-use Rattle.step.proofs.Beginning.{run_sound}
+use Rattle.events.specs.Event.{Event, ran}
+use Rattle.events.proofs.Runs.{run_sound}
 use Rattle.agreement.specs.Accepted.{accepted_in}
 use Rattle.agreement.proofs.Invariant.{Honest, Reached}
 use Rattle.agreement.proofs.Beginning.{fresh_reached}
@@ -35,6 +35,7 @@ module _ (n : ℕ) (size : is_one_of 8 n ≡ true) (es : List Event) where
   sound = sound_facts s (run_sound n size es)
 
   reached : Reached s (accepted_in (fresh_system n) es)
+  unfolding accepted_in
   reached = (run_after (fresh_system n) [] es (fresh_reached n)).reached
 
   module _ (q p : ℕ) (known-q : is_one_of (ran (fresh_system n) es).n q ≡ true) (known-p : is_one_of (ran (fresh_system n) es).n p ≡ true) where

@@ -1,46 +1,34 @@
--- Each transition, and so each step, whole or cut, and each list of events, keeps what is so of every system that events reach.
+-- Each transition, and so each run, keeps what is so of every system that events reach.
 use Prim.Native.Nat.{ℕ, ◌≤◌, ◌<◌, ◌+◌}
 use mathlib.Core.Path.{◌≡◌, refl, sym, subst}
-use mathlib.Core.Bool.{Bool, true, false}
-use mathlib.Core.List.{List, [], ◌∷◌, ◌++◌, append-nil, append_assoc}
+use mathlib.Core.Bool.{true}
+use mathlib.Core.List.{List, [], ◌∷◌, ◌++◌, append-nil}
 use native.Mathlib.Omega.{arith}
-use borrow.Author.Tests.{ne_eqb, lt-ltb, le-ltb}
-use lib.Dec.{eqb}
+use borrow.Author.Tests.{lt-ltb, le-ltb}
 use Rattle.std.specs.Prelude.{None, Some}
 use Rattle.view.specs.declared.ProcessId.{ProcessId}
 use Rattle.view.specs.declared.GroupIndex.{GroupIndex}
 use Rattle.view.specs.Logic.{pick}
 use Rattle.view.specs.View.{has, least_of}
-use Rattle.view.proofs.Laws.{by_test}
 use Rattle.view.proofs.Sets.{has_none, not_empty, has-with, has_only, subset-has}
 use Rattle.channel.specs.declared.Message.{Message}
 use Rattle.system.specs.declared.Variables.{Variables}
 use Rattle.system.specs.declared.System.{System}
-use Rattle.system.specs.Outcome.{Outcome, refused}
-use Rattle.system.specs.Process.{pending_at, Pending, proposal_of}
-use Rattle.system.specs.System.{process_at, variables_at}
-use Rattle.sound.specs.Sound.{sound_system}
+use Rattle.system.specs.Process.{Pending, proposal_of}
+use Rattle.system.specs.System.{variables_at}
 use Rattle.plan.specs.declared.Action.{Action}
 use Rattle.plan.specs.declared.Action.TheVariants.{Report, Receive, Respond, Crash}
-use Rattle.plan.specs.declared.Step.{Step}
 use Rattle.plan.specs.Fields.{with_next}
 use Rattle.plan.specs.Plan.{assigning, recording}
-use Rattle.step.specs.Step.{stepped, Event, does, happened, ran}
 use Rattle.step.proofs.Cases.{Taken, afterwards, Marking, present, stale, Transition, proposes, follows, records, reproposes, ignores, marks, commits, enters, accepts, declines, crashes}
 use Rattle.step.proofs.Effects.{all_left, taken_left}
-use Rattle.step.proofs.Inversion.{by_outcome}
-use Rattle.step.proofs.Outcomes.{unsound_is_1}
-use Rattle.agreement.specs.Accepted.{Acceptance, accepted, accepted_from, accepted_as, accepted_by, accepted_in}
+use Rattle.step.proofs.Frames.{Shape}
+use Rattle.events.specs.Event.{Event, ran, moves_in, grown}
+use Rattle.events.proofs.Runs.{any_run}
+use Rattle.agreement.specs.Accepted.{Acceptance, accepted, accepted_from, accepted_by, accepted_then}
 use Rattle.agreement.proofs.Acceptances.{still, newest, last_or_before}
 use Rattle.agreement.proofs.Invariant.{Proposed, Answered, Honest, Recorded, Own, Reached, Later, later_equal, later_risen, answered_later}
 use Rattle.agreement.proofs.Changes.{Accepting, accepting_none, HonestChange, recording_honest, since_same, since_then, at_actor, later_all, After, effect_after, quiet_after}
-
--- what an action accepts where it is done
-abbrev pub acceptances : System → Action → List Acceptance
-acceptances s (Report p v) = []
-acceptances s (Receive q p) = []
-acceptances s (Respond p q) = accepted_from p.0 (variables_at s p.0) (pending_at (process_at s p.0) q.0)
-acceptances s (Crash p) = []
 
 pub accepts_this : (p : ℕ) (x : Variables) (y : Pending) (v : ℕ) (i : GroupIndex) → y ≡ Some (proposal_of v i) → x.next.0 ≤ i.0
     → accepted_from p x y ≡ record { process = p; view = v; index = i.0 } ∷ []
@@ -97,7 +85,7 @@ module _ {s t : System} {acc : List Acceptance} (r : Reached s acc) where
   unaccepting : After s t acc → After s t (acc ++ [])
   unaccepting a = rw append-nil a
 
-  pub transition_after : (o : Action) → Transition s t o → After s t (acc ++ acceptances s o)
+  pub transition_after : (o : Action) → Transition s t o → After s t (acc ++ accepted_by s o)
   unfolding afterwards
   transition_after (Report p v) (proposes k) =
       let i = (variables_at s p.0).propout.0 + 1 in
@@ -159,44 +147,19 @@ module _ {s t : System} {acc : List Acceptance} (r : Reached s acc) where
   transition_after (Crash p) (crashes k) =
       unaccepting (quiet_after r (all_left s) k.effect (assigned_honest r p.0 refl (later_equal _ _ refl refl) (r.own p.0)))
 
--- ---- one step of any kind, done or refused
-either_way : (t : Bool) → ◌≡◌ {A = List Acceptance} [] (pick t [] [])
-unfolding pick
-either_way true = refl
-either_way false = refl
-
-pub accepted_then : (s : System) (o : Action) (k : ℕ) → accepted_as s o k ≡ pick (eqb k 0) (acceptances s o) []
-unfolding accepted_as
-accepted_then s (Report p v) k = either_way _
-accepted_then s (Receive q p) k = either_way _
-accepted_then s (Respond p q) k = refl
-accepted_then s (Crash p) k = either_way _
-
-step_after : (s : System) (acc : List Acceptance) (o : Step) → Reached s acc
-    → After s (stepped s o).system (acc ++ accepted_as s o.action (stepped s o).refusal)
-unfolding pick
-step_after s acc o r =
-    rw (accepted_then s o.action (stepped s o).refusal)
-    (by_test (sound_system s)
-    (λ sound. by_outcome Then s o (record { shape = r.shape; sound = sound }) (λ t k. transition_after r o.action k) same)
-    (λ unsound. subst Then (sym (unsound_is_1 s o unsound)) (same 1 (λ e. omega arith))))
+-- ---- a run
+pub run_after : (s : System) (acc : List Acceptance) (es : List Event) → Reached s acc → After s (ran s es) (grown accepted_then acc s (moves_in s es))
+unfolding accepted_then
+run_after s acc es r =
+    any_run accepted_then (After s) (λ u t old o valid then k a. onward a (transition_after a.reached o.action k.change))
+    s acc es r.shape (record { reached = r; since = since_same s })
   where
-    Then : Outcome → Type 0
-    Then a = After s a.system (acc ++ pick (eqb a.refusal 0) (acceptances s o.action) [])
+    onward : {u t : System} {old new : List Acceptance} → After s u old → After u t new → After s t new
+    onward a b = record { reached = b.reached; since = since_then a.since b.since }
 
-    same : (k : ℕ) → (k ≡ 0 → ⊥) → Then (refused k s)
-    same k n = rw (ne_eqb k 0 n, append-nil) (record { reached = r; since = since_same s })
-
-pub event_after : (s : System) (acc : List Acceptance) (e : Event) → Reached s acc → After s (happened s e).system (acc ++ accepted_by s e)
-unfolding happened accepted_by
-event_after s acc (does o) r = step_after s acc o r
-
--- ---- a list of events
-pub run_after : (s : System) (acc : List Acceptance) (es : List Event) → Reached s acc → After s (ran s es) (acc ++ accepted_in s es)
-unfolding ran accepted_in
-run_after s acc [] r = rw append-nil (record { reached = r; since = since_same s })
-run_after s acc (e ∷ es) r =
-    let first = event_after s acc e r in
-    let rest = run_after (happened s e).system (acc ++ accepted_by s e) es first.reached in
-    rw (← append_assoc acc (accepted_by s e) (accepted_in (happened s e).system es))
-    (record { reached = rest.reached; since = since_then first.since rest.since })
+-- what was accepted before it stays accepted
+pub still_in : (s : System) (acc : List Acceptance) (es : List Event) → Shape s → (u v i : ℕ) → accepted acc u v i ≡ true
+    → accepted (grown accepted_then acc s (moves_in s es)) u v i ≡ true
+unfolding accepted_then
+still_in s acc es shape u v i =
+    any_run accepted_then (λ t old. accepted old u v i ≡ true) (λ x t old o valid then k a. still old (accepted_by x o.action) u v i a) s acc es shape

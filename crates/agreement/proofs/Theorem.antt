@@ -11,14 +11,13 @@ use borrow.Author.Tests.{eqb-false, not-true}
 use lib.ListN.{length, length-map}
 use Rattle.view.specs.Logic.{at}
 use Rattle.view.specs.View.{has}
-use Rattle.view.proofs.Laws.{at_past}
-use Rattle.system.specs.declared.History.{History}
 use Rattle.system.specs.declared.Process.{Process}
 use Rattle.system.specs.declared.System.{System}
-use Rattle.system.specs.Process.{entry_at, no_entries}
+use Rattle.system.specs.Process.{no_entries}
 use Rattle.system.specs.System.{no_process, process_at, entry_in}
-use Rattle.step.specs.Step.{Event, ran}
-use Rattle.step.proofs.Outcomes.{ran_append}
+use Rattle.system.proofs.Histories.{entry_zero, entry_past}
+use Rattle.events.specs.Event.{Event, ran}
+use Rattle.events.proofs.Moves.{ran_append}
 use Rattle.agreement.specs.Accepted.{Acceptance, accepted_in}
 use Rattle.agreement.specs.Book.{Agreement, book_entry, opened_book, fed_all}
 use Rattle.agreement.specs.Demand.{start, Demand}
@@ -43,7 +42,7 @@ opened_history s p = at_map (λ (x : Process). x.history) s.processes p no_proce
 
 opened_entry : (s : System) (p i : ℕ) → book_entry (opened_book s) p i ≡ entry_in s p i
 unfolding book_entry entry_in
-opened_entry s p i = ap (λ (h : History). entry_at h i) (opened_history s p)
+opened_entry s p i = rw (opened_history s p)
 
 opened-length : (s : System) → length s.processes ≡ 8 → length (opened_book s).histories ≡ 8
 unfolding opened_book
@@ -61,6 +60,7 @@ module _ (s : System) (beginning : Reached s []) (empty : (p i : ℕ) → 2 ≤ 
   acc = accepted_in s es
 
   reached : Reached t acc
+  unfolding accepted_in
   reached = (run_after s [] es beginning).reached
 
   first_same : (p i : ℕ) → i < 2 → entry_in t p i ≡ entry_in s p i
@@ -91,8 +91,7 @@ module _ (s : System) (beginning : Reached s []) (empty : (p i : ℕ) → 2 ≤ 
   fed_book = fed_through t acc reached (opened_book s) 31 (omega arith) opened_feeding opened_last
 
   past_the_end : (p i : ℕ) → 32 < i → entry_in t p i ≡ 0
-  unfolding entry_in entry_at
-  past_the_end p i h = grind (arith, at_past, reached)
+  past_the_end p i h = grind (arith, entry_past, reached)
 
   all_in_book : (p i : ℕ) → book_entry (fed_all acc (opened_book s) (candidates t acc reached 31)) p i ≡ entry_in t p i
   all_in_book p i =
@@ -114,10 +113,6 @@ module _ (s : System) (beginning : Reached s []) (empty : (p i : ℕ) → 2 ≤ 
   book_is : (p i : ℕ) → book_entry (fed_all acc (opened_book s) agreements) p i ≡ entry_in t p i
   book_is p i = grind (arith, made_same_book, all_in_book)
 
-  before_first : (p : ℕ) → entry_in t p 0 ≡ 0
-  unfolding entry_in entry_at at
-  before_first p = refl
-
   -- ---- one view
   consistent : ((p q : ℕ) → (entry_in s p 1 ≡ 0 → ⊥) → (entry_in s q 1 ≡ 0 → ⊥) → entry_in s p 1 ≡ entry_in s q 1)
       → (p q i u : ℕ)
@@ -134,7 +129,7 @@ module _ (s : System) (beginning : Reached s []) (empty : (p i : ℕ) → 2 ≤ 
       ]
     where
       early : (j : ℕ) → j < 2 → has (entry_in t p j) u ≡ true → has (entry_in t q j) u ≡ true → entry_in t p j ≡ entry_in t q j
-      early zero l a b = absurd (not_empty (entry_in t p 0) u a (before_first p))
+      early zero l a b = absurd (not_empty (entry_in t p 0) u a (entry_zero t p))
       early (suc zero) l a b =
           first_same p 1 l
           ∙ first p q (λ z. not_empty (entry_in t p 1) u a (first_same p 1 l ∙ z)) (λ z. not_empty (entry_in t q 1) u b (first_same q 1 l ∙ z))
@@ -143,6 +138,7 @@ module _ (s : System) (beginning : Reached s []) (empty : (p i : ℕ) → 2 ≤ 
 
 -- ---- what is written stays
 pub demand_3 : (n : ℕ) (es : List Event) → Demand n es
+unfolding accepted_in
 demand_3 n es =
     record {
       agreements = agreements (start n) (start_reached n) (start-empty n) es;

@@ -8,7 +8,7 @@ use Rattle.system.specs.Process.{pending_at, Pending}
 use Rattle.system.specs.System.{process_at, variables_at}
 use Rattle.plan.specs.declared.Action.{Action}
 use Rattle.plan.specs.declared.Action.TheVariants.{Report, Receive, Respond, Crash}
-use Rattle.step.specs.Step.{stepped, Event, does, happened}
+use Rattle.events.specs.Event.{Event, Move, made, moves_in, grown}
 
 pub record Acceptance : Type 0 where
   pub process : ℕ
@@ -20,23 +20,19 @@ unfoldable pub accepted_from : ℕ → Variables → Pending → List Acceptance
 accepted_from p x None = []
 accepted_from p x (Some r) = pick (ltb r.index.0 x.next.0) [] (record { process = p; view = r.view; index = r.index.0 } ∷ [])
 
--- an action whose step gives the number k: an answer done, and nothing else
-unfoldable pub accepted_as : System → Action → ℕ → List Acceptance
-accepted_as s (Report p v) k = []
-accepted_as s (Receive q p) k = []
-accepted_as s (Respond p q) k =
-    pick (eqb k 0)
-    (accepted_from p.0 (variables_at s p.0) (pending_at (process_at s p.0) q.0))
-    []
-accepted_as s (Crash p) k = []
+-- what an action accepts where it is done: an answer, and nothing else
+abbrev pub accepted_by : System → Action → List Acceptance
+accepted_by s (Report p v) = []
+accepted_by s (Receive q p) = []
+accepted_by s (Respond p q) = accepted_from p.0 (variables_at s p.0) (pending_at (process_at s p.0) q.0)
+accepted_by s (Crash p) = []
 
--- a step, whole or cut: "The unit's own fields change as in the full step", so that a cut answer accepts too
-unfoldable pub accepted_by : System → Event → List Acceptance
-accepted_by s (does o) = accepted_as s o.action (stepped s o).refusal
+-- one move more: a step, whole or cut. "The unit's own fields change as in the full step", so that a cut answer accepts too
+unfoldable pub accepted_then : List Acceptance → System → Move → List Acceptance
+accepted_then acc s (made o) = acc ++ accepted_by s o.action
 
 unfoldable pub accepted_in : System → List Event → List Acceptance
-accepted_in s [] = []
-accepted_in s (e ∷ es) = accepted_by s e ++ accepted_in (happened s e).system es
+accepted_in s es = grown accepted_then [] s (moves_in s es)
 
 abbrev pub is_this : Acceptance → ℕ → ℕ → ℕ → Bool
 is_this a u v i = eqb a.process u && eqb a.view v && eqb a.index i

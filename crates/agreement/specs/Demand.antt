@@ -5,7 +5,7 @@ use Rattle.system.specs.declared.System.{System}
 use Rattle.system.specs.Fresh.{fresh_of}
 use Rattle.system.specs.Process.{is_written}
 use Rattle.system.specs.System.{entry_in}
-use Rattle.step.specs.Step.{Event, ran}
+use Rattle.events.specs.Event.{Event, ran}
 use Rattle.agreement.specs.Accepted.{accepted_in}
 use Rattle.agreement.specs.Book.{Agreement, book_entry, opened_book, fed_all, none_refused}
 

@@ -23,7 +23,7 @@ use Rattle.plan.specs.Fields.{with_view, with_next, with_acks, proposing}
 use Rattle.plan.specs.Plan.{assigning, recording, entering, sending, quietly, doubting, changed}
 use Rattle.plan.specs.Cut.{reach_of, only_whole}
 use Rattle.step.specs.Step.{taken_off, doubted, changed_at, crashed_if}
-use Rattle.step.specs.Scope.{taking, facing}
+use Rattle.plan.specs.Scope.{taking, facing}
 use Rattle.image.specs.Image.{system_in}
 use Rattle.alternatives.specs.Gives.{Gives, carried, with_room}
 use Rattle.alternatives.proofs.Carrying.{unsuspecting, unchanged_at, quiet_done, sent_done}

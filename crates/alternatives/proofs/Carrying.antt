@@ -27,8 +27,8 @@ use Rattle.plan.specs.declared.Cut.{Cut}
 use Rattle.plan.specs.declared.Cut.TheVariants.{Whole, After}
 use Rattle.plan.specs.declared.Reach.{Reach}
 use Rattle.plan.specs.Plan.{Planned, assigning, sending, quietly, refusing, doubting, crash_plan, changed}
-use Rattle.plan.specs.Cut.{reach_of, only_whole, cut_short, cut_by}
-use Rattle.plan.proofs.Cuts.{within_reach, cut_reaches}
+use Rattle.plan.specs.Cut.{reach_of, only_whole, within_reach, cut_by}
+use Rattle.plan.proofs.Cuts.{cut_reaches}
 use Rattle.step.specs.Step.{suspected_if_named, doubted, changed_at, crashed_at, crashed_if, effected, carried_out}
 use Rattle.image.specs.Image.{system_in}
 use Rattle.alternatives.specs.Gives.{Gives, with_room}
@@ -64,7 +64,7 @@ some_number EarlyTrust = refl
 some_number TooDeep = refl
 
 cut_refusing : (cut : Cut) (r : Refusal) (x : Variables) → cut_by cut (refusing (number r) x) ≡ refusing (number r) x
-unfolding cut_by cut_short pick
+unfolding cut_by reach_of pick
 cut_refusing Whole r x = refl
 cut_refusing (After j) r x = rw (some_number r)
 
@@ -121,7 +121,7 @@ module _ (b : List ℕ) (t : System) (p : ℕ) where
   quiet_as suspects c (Ok x) = done (changed_at (doubted t p suspects) p c)
 
   quiet_out : (cut : Cut) (suspects : ℕ) (c : Change) → carried_out (system_in b) t p (cut_by cut (doubting suspects (quietly c))) ≡ quiet_as suspects c (only_whole cut)
-  unfolding carried_out effected crashed_if cut_by cut_short only_whole quiet_as pick
+  unfolding carried_out effected crashed_if cut_by reach_of only_whole quiet_as pick
   quiet_out Whole suspects c = rw (room_enough t p, no_broadcast (changed_at (doubted t p suspects) p c) p _)
   quiet_out (After k) suspects c = rw (count_none, le-ltb k 0 (omega arith))
 
@@ -151,7 +151,7 @@ module _ (b : List ℕ) (t : System) (p : ℕ) where
   stop_as (Ok x) = done (crashed_at t p)
 
   stop_out : (cut : Cut) → carried_out (system_in b) t p (cut_by cut (crash_plan (variables_at t p))) ≡ stop_as (only_whole cut)
-  unfolding carried_out effected crashed_if cut_by cut_short only_whole stop_as pick
+  unfolding carried_out effected crashed_if cut_by reach_of only_whole stop_as pick
   stop_out Whole = rw (room_enough t p, no_doubts t p, unchanged_at t p, no_broadcast t p _)
   stop_out (After k) = rw (count_none, le-ltb k 0 (omega arith))
 

@@ -13,7 +13,7 @@ ghost use Rattle.system.specs.System.{variables_at};
 ghost use Rattle.plan.specs.Fields.{with_view, with_next, with_acks, proposing};
 ghost use Rattle.plan.specs.Plan.{assigning, recording, entering, sending, quietly, doubting};
 ghost use Rattle.plan.specs.Cut.{reach_of};
-ghost use Rattle.step.specs.Scope.{taking, facing};
+ghost use Rattle.plan.specs.Scope.{taking, facing};
 ghost use Rattle.step.specs.Step.{taken_off, doubted};
 ghost use Rattle.image.specs.Image.{system_in};
 ghost use Rattle.alternatives.specs.Gives.{Gives, carried, with_room};

@@ -1,13 +1,14 @@
--- What a sheet counts is the tally of its events: line by line. Each line has at most 7,936 of them, and each of these sends at most eight
+-- What a sheet counts is the tally of its events: line by line. Each line makes at most 7,936 moves, and each of these sends at most eight
 -- messages, so that no count of a sheet, nor of 64 sheets, passes its end.
-use Prim.Native.Nat.{ℕ, suc, ◌*◌, ◌≤◌}
+use Prim.Native.Nat.{ℕ, suc, ◌*◌, ◌≤◌, ◌+◌}
 use mathlib.Core.Path.{◌≡◌, refl, sym, ◌∙◌, ap, subst}
-use mathlib.Core.Bool.{Bool, true}
+use mathlib.Core.Bool.{Bool, true, false}
 use mathlib.Core.List.{List, [], ◌∷◌, ◌++◌}
 use native.Mathlib.Omega.{arith}
 use borrow.Author.Tests.{ltb-false, le-ltb}
-use lib.Dec.{ltb}
+use lib.Dec.{eqb, ltb}
 use lib.ListN.{length, length-append}
+use Rattle.std.proofs.lemmas.List.{length-map}
 use Rattle.std.specs.Prelude.{Option, Some, None}
 use Rattle.view.specs.Logic.{pick, is_one_of}
 use Rattle.view.proofs.Laws.{by_pick}
@@ -17,13 +18,14 @@ use Rattle.tallies.proofs.Laws.{plus_none, none_plus, plus-plus, kept_on_the_way
 use Rattle.system.specs.declared.System.{System}
 use Rattle.system.specs.Outcome.{Outcome, done, refused}
 use Rattle.system.specs.Fresh.{fresh_system, fresh_of}
-use Rattle.step.specs.Step.{stepped, Event, does, happened, ran}
-use Rattle.step.specs.Counts.{event_tally, events_tally, still_waiting, tally_of}
-use Rattle.step.specs.Tallied.{fresh_tally}
-use Rattle.step.proofs.Outcomes.{ran_append, tally_append}
-use Rattle.settle.specs.Settle.{settled, settled_tally}
-use Rattle.settle.proofs.Within.{settled_steps}
-use Rattle.bound.proofs.Settling.{settles_by}
+use Rattle.step.specs.Step.{stepped}
+use Rattle.events.specs.Counts.{tally_if, step_tally, done_tally, still_waiting, move_tally, tally_then, events_tally, tally_of, fresh_tally}
+use Rattle.events.specs.Event.{Event, happened, ran, Move, made, moved, moves_of, moves_then, moves_in, grown}
+use Rattle.events.proofs.Moves.{ran_append, moves_append, run_grown}
+use Rattle.settling.specs.Settle.{settled_log, settling_budget}
+use Rattle.settling.proofs.Within.{settled_steps}
+use Rattle.settling.proofs.Steps.{is_its_steps, runs_to, settled_moves}
+use Rattle.traffic.specs.Traffic.{moves_made}
 use Rattle.traffic.proofs.Theorem.{conserved, few_counted}
 use Rattle.traffic.proofs.Share.{share_at_most_one}
 use Rattle.std.specs.Prelude.{Result, Ok, Err}
@@ -34,126 +36,114 @@ use Rattle.sheet.specs.Lines.{lines_of}
 use Rattle.sheet.specs.Parse.{opened, parsed}
 use Rattle.sheet.proofs.Laws.{weight, few_bytes, few_lines}
 use Rattle.sheet.proofs.GoodLines.{fresh_size}
-use Rattle.run.specs.Output.{answered, settled_as, line_done, tallied_then, tallied_from, tallied_by, lines_tally, sheet_tally}
-use Rattle.class.specs.Class.{Finding, Named, counted, finding_of, adds_of, in_all}
-use Rattle.audit.specs.Audit.{EventsOf, ended, bad, step, settling, Accounted, SheetAccounted, Even, SheetEven, ClassEven, NotOverOne, SheetShare, ClassShare, NoOverflow}
+use Rattle.run.specs.Output.{answered, settled_as, line_done, tallied_then, tallied_from, tallied_by, lines_tally, sheet_tally, sheet_limit}
+use Rattle.class.specs.Class.{Finding, Named, counted, finding_of, adds_of, in_all, name_limit}
+use Rattle.audit.specs.Audit.{line_events, events_of, Accounted, SheetAccounted, Even, SheetEven, ClassEven, NotOverOne, SheetShare, ClassShare, NoOverflow}
+
+-- ---- what moves count, one after the other
+tally_from : (a : Tally) (s : System) (ms : List Move) → grown tally_then a s ms ≡ plus a (grown tally_then no_tally s ms)
+unfolding grown tally_then
+tally_from a s [] = sym (plus_none a)
+tally_from a s (m ∷ ms) =
+    let t = (moved s m).system in
+    tally_from (plus a (move_tally s m)) t ms
+    ∙ plus-plus a (move_tally s m) (grown tally_then no_tally t ms)
+    ∙ ap (plus a) (sym (tally_from (move_tally s m) t ms) ∙ ap (λ (b : Tally). grown tally_then b t ms) (sym (none_plus (move_tally s m))))
+
+tally_append : (s : System) (es fs : List Event) → tally_of s (es ++ fs) ≡ plus (events_tally s es) (tally_of (ran s es) fs)
+unfolding tally_of events_tally
+tally_append s es fs =
+    rw (run_grown s es fs tally_then no_tally, tally_from (grown tally_then no_tally s (moves_in s es)) (ran s es) (moves_in (ran s es) fs), ran_append s es fs)
+    (plus-plus _ _ _)
+
+-- ---- a line: what it counts, and the system after it
+module _ (k : ℕ) (s : System) where
+  line_counts : (x : Result Line BadFrom) → capped (line_done k s x).tally ≡ capped (events_tally s (line_events s x))
+  unfolding line_done answered settled_as line_events events_tally done_tally tally_if moves_in moves_then moves_of happened grown tally_then move_tally pick
+  line_counts (Err from) = refl
+  line_counts (Ok (Step o)) = go (eqb (stepped s o).refusal 0)
+    where
+      go : (t : Bool) → capped (pick t (step_tally s o) no_tally) ≡ capped (grown tally_then no_tally s (pick t (made o ∷ []) [] ++ []))
+      go true = ap capped (sym (none_plus (step_tally s o)))
+      go false = refl
+  line_counts (Ok Settle) =
+      ap capped ((is_its_steps settling_budget s).tally ∙ ap (λ (ms : List Move). capped (grown tally_then no_tally s ms)) (sym (settled_moves settling_budget s))) ∙ kept_twice _
+
+  line_leaves : (x : Result Line BadFrom) → (line_done k s x).system ≡ ran s (line_events s x)
+  unfolding line_done answered settled_as line_events happened ran
+  line_leaves (Err from) = refl
+  line_leaves (Ok (Step o)) = refl
+  line_leaves (Ok Settle) = sym (runs_to settling_budget s)
+
+line_few : (s : System) (x : Result Line BadFrom) → length (moves_in s (line_events s x)) ≤ settling_budget
+unfolding line_events moves_in moves_then moves_of happened pick
+line_few s (Err from) = omega arith
+line_few s (Ok (Step o)) = grind arith
+line_few s (Ok Settle) = omega (arith, ap length (settled_moves settling_budget s), length-map (settled_log settling_budget s) made, (is_its_steps settling_budget s).count, settled_steps settling_budget s)
+
+-- as many events as a sheet has at most, and as many as each count comes to
+abbrev most_events : ℕ
+most_events = settling_budget * (sheet_limit + 1)
+
+abbrev most_counted : ℕ
+most_counted = 8 * most_events
 
 -- ---- the lines from number k on, on system s, where a was counted before them
-record LinesCounted (k : ℕ) (a : Tally) (s : System) (ls : List (List ℕ)) : Type 0 where
-  events : List Event
-  happen : EventsOf s ls events
-  tally : tallied_from k a s ls ≡ capped (plus a (tally_of s events))
-  many : length events ≤ 7936 * length ls
-
--- a line counts x and leaves t, and then es happen: that is what it and they count
-then_more : (a x : Tally) (s t : System) (ms es : List Event) → capped x ≡ capped (events_tally s ms) → ran s ms ≡ t
-    → capped (plus (capped (plus a x)) (tally_of t es)) ≡ capped (plus a (tally_of s (ms ++ es)))
-unfolding tally_of
-then_more a x s t ms es counts leaves =
-    ap (λ (y : Tally). capped (plus y rest)) (sym (kept_added a x) ∙ ap (λ (y : Tally). capped (plus a y)) counts ∙ kept_added a line)
-    ∙ kept_on_the_way (plus a line) rest
-    ∙ ap capped (plus-plus a line rest)
-    ∙ ap (λ (y : Tally). capped (plus a y)) whole
-  where
-    rest : Tally
-    rest = plus (events_tally t es) (still_waiting (ran t es))
-
-    line : Tally
-    line = events_tally s ms
-
-    whole : plus line rest ≡ plus (events_tally s (ms ++ es)) (still_waiting (ran s (ms ++ es)))
-    whole =
-        sym (plus-plus line (events_tally t es) (still_waiting (ran t es)))
-        ∙ ap (λ (u : System). plus (plus line (events_tally u es)) (still_waiting (ran u es))) (sym leaves)
-        ∙ ap (λ (y : Tally). plus y (still_waiting (ran (ran s ms) es))) (sym (tally_append s ms es))
-        ∙ ap (λ (u : System). plus (events_tally s (ms ++ es)) (still_waiting u)) (sym (ran_append s ms es))
+-- x is counted as y is, after a; and z after it
+counted_on : (a x y z : Tally) → capped x ≡ capped y → capped (plus (capped (plus a x)) z) ≡ capped (plus a (plus y z))
+counted_on a x y z e =
+    ap (λ (t : Tally). capped (plus t z)) (sym (kept_added a x) ∙ ap (λ (t : Tally). capped (plus a t)) e ∙ kept_added a y)
+    ∙ kept_on_the_way (plus a y) z
+    ∙ ap capped (plus-plus a y z)
 
 nothing_more : (s : System) → tally_of s [] ≡ still_waiting s
-unfolding tally_of events_tally ran
+unfolding tally_of events_tally moves_in grown ran
 nothing_more s = none_plus (still_waiting s)
 
-line_runs : (k : ℕ) (a : Tally) (s : System) (l : List ℕ) (ls : List (List ℕ)) → ((b : Tally) (t : System) → LinesCounted (suc k) b t ls) → (x : Result Line BadFrom)
-    → parsed l ≡ x
-    → LinesCounted k a s (l ∷ ls)
-unfolding tallied_from tallied_then line_done answered settled_as events_tally ran happened
-line_runs k a s l ls on (Err from) e =
-    let more = on (capped (plus a no_tally)) s in
-    record {
-      events = more.events;
-      happen = bad e more.happen;
-      tally = rw e (more.tally ∙ then_more a no_tally s s [] more.events refl refl);
-      many = omega (arith, more.many);
-    }
-line_runs k a s l ls on (Ok (Step o)) e =
-    let more = on (capped (plus a (event_tally s (does o)))) (stepped s o).system in
-    record {
-      events = does o ∷ more.events;
-      happen = step e more.happen;
-      tally = rw e (more.tally ∙ then_more a _ s (stepped s o).system (does o ∷ []) more.events (ap capped (sym (plus_none _))) refl);
-      many = omega (arith, more.many);
-    }
-line_runs k a s l ls on (Ok Settle) e =
-    let way = settles_by 7936 s in
-    let more = on (capped (plus a (settled_tally 7936 s))) (settled 7936 s).system in
-    record {
-      events = way.events ++ more.events;
-      happen = settling e way.moves more.happen;
-      tally =
-          rw e
-          (more.tally
-          ∙ then_more a _ s (settled 7936 s).system way.events more.events (ap capped way.tally ∙ kept_twice (events_tally s way.events)) way.moves.system);
-      many = omega (arith, more.many, length-append way.events more.events, way.moves.count, settled_steps 7936 s);
-    }
+lines_count : (k : ℕ) (a : Tally) (s : System) (ls : List (List ℕ)) → tallied_from k a s ls ≡ capped (plus a (tally_of s (events_of s ls)))
+unfolding tallied_from tallied_then events_of
+lines_count k a s [] = ap (λ (t : Tally). capped (plus a t)) (sym (nothing_more s))
+lines_count k a s (l ∷ ls) =
+    let x = line_done k s (parsed l) in
+    let es = line_events s (parsed l) in
+    rw (lines_count (suc k) (capped (plus a x.tally)) x.system ls, line_leaves k s (parsed l), tally_append s es (events_of (ran s es) ls))
+    (counted_on a _ _ _ (line_counts k s (parsed l)))
 
-runs_on : (k : ℕ) (a : Tally) (s : System) (ls : List (List ℕ)) → LinesCounted k a s ls
-unfolding tallied_from
-runs_on k a s [] =
-    record { events = []; happen = ended; tally = ap (λ (y : Tally). capped (plus a y)) (sym (nothing_more s)); many = omega arith }
-runs_on k a s (l ∷ ls) = line_runs k a s l ls (λ b t. runs_on (suc k) b t ls) (parsed l) refl
+lines_few : (s : System) (ls : List (List ℕ)) → length (moves_in s (events_of s ls)) ≤ settling_budget * length ls
+unfolding events_of moves_in
+lines_few s [] = omega arith
+lines_few s (l ∷ ls) =
+    let es = line_events s (parsed l) in
+    omega (
+      arith,
+      ap length (moves_append s es (events_of (ran s es) ls)),
+      length-append (moves_in s es) (moves_in (ran s es) (events_of (ran s es) ls)),
+      line_few s (parsed l),
+      lines_few (ran s es) ls,
+    )
 
 -- ---- a whole sheet
-few_at_most : (n : ℕ) (es : List Event) (k : ℕ) → length es ≤ k → CountsAtMost (8 * k) (fresh_tally n es)
-few_at_most n es k short =
-    let small = few_counted n es in
-    record {
-      sent = omega (arith, small.sent);
-      taken = omega (arith, small.taken);
-      waiting = omega (arith, small.waiting);
-      lost = omega (arith, small.lost);
-      proposals = omega (arith, small.proposals);
-      committed = omega (arith, small.committed);
-    }
+few_at_most : (n : ℕ) (es : List Event) (k : ℕ) → moves_made n es ≤ k → CountsAtMost (8 * k) (fresh_tally n es)
+few_at_most n es k short = let small = few_counted n es in grind arith
 
 -- a sheet of at most 60,001 lines, which starts with n processes: what its lines count
-record GoodSheet (n : ℕ) (ls : List (List ℕ)) (t : Tally) : Type 0 where
-  accounted : Accounted n ls t
-  few : length accounted.events ≤ 7936 * length ls
-
-good_sheet : (n : ℕ) (ls : List (List ℕ)) → is_one_of 8 n ≡ true → length ls ≤ 60001 → GoodSheet n ls (tallied_from 2 no_tally (fresh_system n) ls)
+good_sheet : (n : ℕ) (ls : List (List ℕ)) → is_one_of 8 n ≡ true → length ls ≤ 60001 → Accounted n ls (tallied_from 2 no_tally (fresh_system n) ls)
 unfolding fresh_tally fresh_of pick
 good_sheet n ls e short =
-    let r = runs_on 2 no_tally (fresh_system n) ls in
-    let same : (fresh_of n).system ≡ fresh_system n = ap (λ (test : Bool). (pick {A = Outcome} test (done (fresh_system n)) (refused 2 (fresh_system 0))).system) e in
-    record {
-      accounted =
-          record {
-            events = r.events;
-            happen = subst (λ (s : System). EventsOf s ls r.events) (sym same) r.happen;
-            tally =
-                r.tally
-                ∙ ap capped (none_plus _)
-                ∙ ap (λ (s : System). capped (tally_of s r.events)) (sym same)
-                ∙ kept_whole (8 * (7936 * 60001)) (fresh_tally n r.events) (few_at_most n r.events (7936 * 60001) (omega (arith, r.many))) (omega arith);
-          };
-      few = r.many;
-    }
+    let start = (fresh_of n).system in
+    let same : start ≡ fresh_system n = ap (λ (test : Bool). (pick {A = Outcome} test (done (fresh_system n)) (refused 2 (fresh_system 0))).system) e in
+    ap (λ (s : System). tallied_from 2 no_tally s ls) (sym same)
+    ∙ lines_count 2 no_tally start ls
+    ∙ ap capped (none_plus _)
+    ∙ kept_whole (8 * (most_events)) (fresh_tally n (events_of start ls))
+    (few_at_most n (events_of start ls) (most_events) (omega (arith, lines_few start ls))) (omega arith)
 
 pub accounted : (sheet first : List ℕ) (ls : List (List ℕ)) (n : ℕ) → SheetAccounted sheet first ls n
 unfolding sheet_tally lines_tally tallied_by weight pick
 accounted sheet first ls n short lines good =
-    subst (Accounted n ls) (sym tallied) (good_sheet n ls (fresh_size first n good) few).accounted
+    tallied ∙ good_sheet n ls (fresh_size first n good) few
   where
-    few : length ls ≤ 60001
+    few : length ls ≤ sheet_limit + 1
     few =
         omega (
           arith,
@@ -164,36 +154,35 @@ accounted sheet first ls n short lines good =
 
     tallied : sheet_tally sheet ≡ tallied_from 2 no_tally (fresh_system n) ls
     tallied =
-        ap (λ (test : Bool). pick test no_tally (lines_tally (lines_of sheet))) (le-ltb 60000 (length sheet) short)
+        ap (λ (test : Bool). pick test no_tally (lines_tally (lines_of sheet))) (le-ltb sheet_limit (length sheet) short)
         ∙ ap lines_tally lines
         ∙ ap (λ (x : Result ℕ BadFrom). tallied_by x ls) good
 
 -- ---- every sheet: what is so of each list of events, and of nothing
-every_sheet : (P : Tally → Type 0) → P no_tally → ((n : ℕ) (es : List Event) → length es ≤ 476167936 → P (fresh_tally n es)) → (sheet : List ℕ)
+every_sheet : (P : Tally → Type 0) → P no_tally → ((n : ℕ) (es : List Event) → moves_made n es ≤ most_events → P (fresh_tally n es)) → (sheet : List ℕ)
     → P (sheet_tally sheet)
 unfolding sheet_tally lines_tally tallied_by
 every_sheet P none some sheet =
-    by_pick P (ltb 60000 (length sheet)) _ _ (λ long. none)
-    (λ e. of_lines (lines_of sheet) (omega (arith, few_bytes sheet, few_lines (lines_of sheet), ltb-false 60000 (length sheet) e)))
+    by_pick P (ltb sheet_limit (length sheet)) _ _ (λ long. none)
+    (λ e. of_lines (lines_of sheet) (omega (arith, few_bytes sheet, few_lines (lines_of sheet), ltb-false sheet_limit (length sheet) e)))
   where
-    of_opening : (first : List ℕ) (ls : List (List ℕ)) (x : Result ℕ BadFrom) → opened first ≡ x → length ls ≤ 60001 → P (tallied_by x ls)
+    of_opening : (first : List ℕ) (ls : List (List ℕ)) (x : Result ℕ BadFrom) → opened first ≡ x → length ls ≤ sheet_limit + 1 → P (tallied_by x ls)
     of_opening first ls (Err from) e short = none
     of_opening first ls (Ok n) e short =
-        let whole = good_sheet n ls (fresh_size first n e) short in
-        subst P (sym whole.accounted.tally) (some n whole.accounted.events (omega (arith, whole.few)))
+        subst P (sym (good_sheet n ls (fresh_size first n e) short)) (some n (events_of (fresh_of n).system ls) (omega (arith, lines_few (fresh_of n).system ls)))
 
-    of_lines : (ls : List (List ℕ)) → length ls ≤ 60001 → P (lines_tally ls)
+    of_lines : (ls : List (List ℕ)) → length ls ≤ sheet_limit + 1 → P (lines_tally ls)
     of_lines [] short = none
     of_lines (l ∷ ls) short = of_opening l ls (opened l) refl (omega arith)
 
 -- ---- a class: what a name adds
 every_name : (P : Tally → Type 0) → P no_tally → ((sheet : List ℕ) → P (sheet_tally sheet)) → (x : Named) → P (adds_of (finding_of x))
 unfolding finding_of counted adds_of
-every_name P none some x = by_pick (λ (f : Finding). P (adds_of f)) (ltb 255 (length x.name)) _ _ (λ e. none) (λ e. of_sheet x.sheet)
+every_name P none some x = by_pick (λ (f : Finding). P (adds_of f)) (ltb name_limit (length x.name)) _ _ (λ e. none) (λ e. of_sheet x.sheet)
   where
     of_sheet : (sheet : Option (List ℕ)) → P (adds_of (counted sheet))
     of_sheet None = none
-    of_sheet (Some sheet) = by_pick (λ (f : Finding). P (adds_of f)) (ltb 60000 (length sheet)) _ _ (λ l. none) (λ l. some sheet)
+    of_sheet (Some sheet) = by_pick (λ (f : Finding). P (adds_of f)) (ltb sheet_limit (length sheet)) _ _ (λ l. none) (λ l. some sheet)
 
 -- ---- sent is taken, waiting and lost
 pub sheet_even : (sheet : List ℕ) → SheetEven sheet
@@ -221,16 +210,16 @@ class_share (x ∷ xs) = omega (arith, name_share, class_share xs)
     name_share : NotOverOne (adds_of (finding_of x))
     name_share = every_name NotOverOne (omega arith) sheet_share x
 
--- ---- each count of a name is at most 8 times 7,936 times 60,001, and so 64 of them stay far below the end
-sheet_at_most : (sheet : List ℕ) → CountsAtMost 3809343488 (sheet_tally sheet)
-sheet_at_most sheet = every_sheet (CountsAtMost 3809343488) (none_at_most 3809343488) (λ n es few. few_at_most n es 476167936 few) sheet
+-- ---- 64 times as much stays far below the end
+sheet_at_most : (sheet : List ℕ) → CountsAtMost most_counted (sheet_tally sheet)
+sheet_at_most sheet = every_sheet (CountsAtMost most_counted) (none_at_most most_counted) (λ n es few. few_at_most n es most_events few) sheet
 
-class_at_most : (xs : List Named) → CountsAtMost (length xs * 3809343488) (in_all xs)
+class_at_most : (xs : List Named) → CountsAtMost (length xs * most_counted) (in_all xs)
 unfolding in_all
 class_at_most [] = none_at_most 0
 class_at_most (x ∷ xs) =
     subst (λ (k : ℕ). CountsAtMost k (plus (adds_of (finding_of x)) (in_all xs))) (omega arith)
-    (plus_at_most 3809343488 (length xs * 3809343488) _ _ (every_name (CountsAtMost 3809343488) (none_at_most 3809343488) sheet_at_most x) (class_at_most xs))
+    (plus_at_most most_counted (length xs * most_counted) _ _ (every_name (CountsAtMost most_counted) (none_at_most most_counted) sheet_at_most x) (class_at_most xs))
 
 pub no_overflow : (xs : List Named) → NoOverflow xs
-no_overflow xs few = kept_whole (length xs * 3809343488) (in_all xs) (class_at_most xs) (omega arith)
+no_overflow xs few = kept_whole (length xs * most_counted) (in_all xs) (class_at_most xs) (omega arith)

@@ -2,7 +2,8 @@
 // standard output. Where the sheet cannot be read, nothing is written there.
 #![tactic(auto)]
 
-use input::{Failure, OUTPUT_ROOM, SHEET_ROOM, read_to_end, zeros};
+use input::{Failure, read_to_end, zeros};
+use run::{OUTPUT_ROOM, SHEET_ROOM, print_sheet};
 use std::io::Read;
 
 // Reads a sheet, runs it and writes all that is printed for it. Program `runs` has five such lines: one function for both would
@@ -11,7 +12,7 @@ fn run_sheet(stdin: &mut impl Read, rt: &impl Print) -> Result<(), Failure> {
     let mut sheet = zeros::<SHEET_ROOM>();
     let len = read_to_end(stdin, &mut sheet).map_err(|_| Failure::Unread("sheet"))?;
     let mut out = zeros::<OUTPUT_ROOM>();
-    let end = run::print_sheet(&sheet[..len], &mut out);
+    let end = print_sheet(&sheet[..len], &mut out);
     rt.write_all(&out[..end]).map_err(|_| Failure::Unwritten)
 }
 

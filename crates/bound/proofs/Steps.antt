@@ -11,20 +11,18 @@ use Rattle.view.specs.View.{has, with}
 use Rattle.view.proofs.Sets.{subset-has}
 use Rattle.channel.specs.declared.Message.{Message}
 use Rattle.channel.specs.declared.Message.TheVariants.{Propose}
-use Rattle.system.specs.declared.Variables.{Variables}
 use Rattle.system.specs.declared.System.{System}
 use Rattle.system.specs.Process.{pending_at, proposal_of}
 use Rattle.system.specs.System.{process_at, variables_at}
 use Rattle.plan.specs.declared.Change.{Change}
 use Rattle.plan.specs.declared.Action.{Action}
 use Rattle.plan.specs.declared.Action.TheVariants.{Report, Receive, Respond, Crash}
-use Rattle.plan.specs.Plan.{recording}
 use Rattle.step.proofs.Frames.{Shape}
 use Rattle.step.proofs.Cases.{waiting_at, Known, Effect, Transition, proposes, follows, records, reproposes, ignores, marks, commits, enters, accepts, declines, crashes}
-use Rattle.bound.specs.Bound.{take_or_answer}
-use Rattle.step.proofs.Weights.{one_true, unmarked, marked, is, is_self, is_other, mark, count, taken_off_lem}
-use Rattle.bound.proofs.Dues.{outward, inward, selfward, stake, due}
-use Rattle.bound.proofs.Changes.{flow_sent, flow_answered, flow_quiet, held_steady, held_more, held_cleared, marks_paid, marks_fewer, ahead_steady, ahead_falls}
+use Rattle.settling.specs.Steps.{take_or_answer}
+use Rattle.step.proofs.Weights.{one_true, unmarked, marked, is, is_self, is_other, mark, count, none_off, taken_off_lem}
+use Rattle.step.proofs.Stakes.{selfward, stake, flows_sent, flows_answered, flows_quiet, held_steady, held_more, held_cleared, marks_paid, marks_fewer, ahead_steady, ahead_falls}
+use Rattle.bound.proofs.Dues.{outward, inward, due, between}
 
 -- d is paid between two of the processes, and nothing more is due anywhere
 pub record Paid (s t : System) (d : ℕ) : Type 0 where
@@ -35,10 +33,6 @@ pub record Paid (s t : System) (d : ℕ) : Type 0 where
   pub pays : (a b : ℕ) → due t a b + d * (is a proposer * is b other) ≤ due s a b
 
 -- ---- what the transitions share
--- nothing is taken off
-none_off : (s : System) (w : Message → ℕ) (a b : ℕ) → count w (waiting_at s a b) + 0 ≡ count w (waiting_at s a b)
-none_off s w a b = omega arith
-
 module _ {s t : System} {left : ℕ → ℕ → List Message} {p : ℕ} {c : Change} {stops : Bool} {to : ℕ} {m : Message} (f : Effect s t left p c stops to m)
     (off : (Message → ℕ) → ℕ → ℕ → ℕ)
     (taken : (w : Message → ℕ) (a b : ℕ) → count w (left a b) + off w a b ≡ count w (waiting_at s a b))
@@ -49,7 +43,7 @@ module _ {s t : System} {left : ℕ → ℕ → List Message} {p : ℕ} {c : Cha
   unfolding due stake mark
   idle quiet acks out a b =
       omega
-      (arith, flow_quiet f off taken quiet a b, held_steady f none a b, held_steady f none a a, marks_fewer f (rw acks (omega arith)) a, ahead_steady f out a)
+      (arith, between (flows_quiet f off taken quiet) a b, held_steady f none a b, held_steady f none a a, marks_fewer f (rw acks (omega arith)) a, ahead_steady f out a)
 
   -- a proposal is sent, and the marks are cleared: PropOut pays for the proposal
   proposing : (v : ℕ) (i : GroupIndex) → m ≡ Propose v i → c.variables.acks ≡ 0 → (variables_at s p).propout.0 < c.variables.propout.0
@@ -58,25 +52,27 @@ module _ {s t : System} {left : ℕ → ℕ → List Message} {p : ℕ} {c : Cha
       → due t a b + (off outward a b + off inward b a) ≤ due s a b
   unfolding due stake outward inward selfward
   proposing v i e acks rises below a b =
-      let sent = rw e at (flow_sent f off taken a b) in
+      let sent = rw e at (between (flows_sent f off taken) a b) in
       omega
       (arith, sent, held_steady f none a b, held_steady f none a a, marks_fewer f (rw acks (omega (arith, unmarked p))) a, ahead_falls f rises below a)
 
 -- an answer: the record pays for it
-answering : {s t : System} {p v : ℕ} {i : GroupIndex} {q : ProcessId} {y : Variables} {stops : Bool} {m : Message}
-    (f : Effect s t (waiting_at s) p (recording y q None) stops (with 0 q.0) m)
+answering : {s t : System} {p v : ℕ} {i : GroupIndex} {q : ProcessId} {c : Change} {stops : Bool} {m : Message}
+    (f : Effect s t (waiting_at s) p c stops (with 0 q.0) m)
+    → c.proposer.0 ≡ q.0
+    → c.pending ≡ None
     → Shape s
     → Known s q.0
     → pending_at (process_at s p) q.0 ≡ Some (proposal_of v i)
     → (outward m ≡ 0) × (inward m ≡ 1) × (selfward m ≡ 1)
-    → y.acks ≡ (variables_at s p).acks
-    → y.propout ≡ (variables_at s p).propout
+    → c.variables.acks ≡ (variables_at s p).acks
+    → c.variables.propout ≡ (variables_at s p).propout
     → (a b : ℕ)
     → due t a b + is a q.0 * is b p ≤ due s a b
 unfolding due stake mark
-answering {s} {t} {p} {q = q} f shape from was e acks out a b =
-    let cleared = held_cleared f _ _ _ refl refl from.low (omega (arith, from.eight, shape.pending p)) was in
-    let sent = flow_answered f _ (none_off s) q.0 from.low from.eight refl a b in
+answering {s} {t} {p} {q = q} f same none shape from was e acks out a b =
+    let cleared = held_cleared f _ _ _ same none from.low (omega (arith, from.eight, shape.pending p)) was in
+    let sent = between (flows_answered f _ (none_off s) q.0 from.low from.eight refl) a b in
     omega (
       arith,
       rw e.0 at sent.out,
@@ -105,7 +101,7 @@ module _ {s t : System} (shape : Shape s) where
       (λ a b.
       omega (
         arith,
-        flow_quiet k.effect _ (taken_off_lem k.taken) refl a b,
+        between (flows_quiet k.effect _ (taken_off_lem k.taken) refl) a b,
         held_more k.effect a b,
         held_more k.effect a a,
         marks_fewer k.effect (omega arith) a,
@@ -123,7 +119,7 @@ module _ {s t : System} (shape : Shape s) where
       (λ a b.
       omega (
         arith,
-        flow_quiet k.effect _ (taken_off_lem k.taken) refl a b,
+        between (flows_quiet k.effect _ (taken_off_lem k.taken) refl) a b,
         held_steady k.effect refl a b,
         held_steady k.effect refl a a,
         marks_paid k.effect (λ j. 0) (λ j. is j q.0 * is j p.0) (rw (is_self p.0) (omega (arith, own))) (λ j h. omega arith) a,
@@ -137,7 +133,7 @@ module _ {s t : System} (shape : Shape s) where
       (λ a b.
       omega (
         arith,
-        flow_sent k.effect _ (taken_off_lem k.taken) a b,
+        between (flows_sent k.effect _ (taken_off_lem k.taken)) a b,
         held_steady k.effect refl a b,
         held_steady k.effect refl a a,
         marks_paid k.effect (λ j. is j p.0) (λ j. is j q.0 * is j p.0)
@@ -150,9 +146,9 @@ module _ {s t : System} (shape : Shape s) where
       paid k.partner k.acts.known (λ a b. omega (arith, idle k.effect _ (taken_off_lem k.taken) refl refl refl refl a b))
   transition_pays (Respond p q) (accepts k) =
       paid k.partner k.acts.known
-      (λ a b. omega (arith, answering k.effect shape k.partner k.recorded (refl, refl, refl) refl refl a b))
+      (λ a b. omega (arith, answering {q = q} k.effect refl refl shape k.partner k.recorded (refl, refl, refl) refl refl a b))
   transition_pays (Respond p q) (declines k) =
       paid k.partner k.acts.known
-      (λ a b. omega (arith, answering k.effect shape k.partner k.recorded (refl, refl, refl) refl refl a b))
+      (λ a b. omega (arith, answering {q = q} k.effect refl refl shape k.partner k.recorded (refl, refl, refl) refl refl a b))
   transition_pays (Crash p) (crashes k) =
       paid k.acts.known k.acts.known (λ a b. omega (arith, idle k.effect _ (none_off s) refl refl refl refl a b))

@@ -1,3 +1,3 @@
--- The bound on the takes and answers that are ever done, and what is true of a settling run.
+-- The bound on the takes and answers that are ever done, and that a settling run never uses its budget up.
 pub mod Bound
 pub mod Settling

@@ -8,8 +8,11 @@ use Rattle.std.specs.Prelude.{Ok, Err}
 use Rattle.view.specs.Logic.{pick}
 use Rattle.system.specs.declared.System.{System}
 use Rattle.system.specs.Outcome.{Outcome}
-use Rattle.step.specs.Step.{stepped, Event, happened, ran}
-use Rattle.step.proofs.Outcomes.{ran_append}
+use Rattle.step.specs.Step.{stepped}
+use Rattle.events.specs.Event.{Event, happened, ran}
+use Rattle.events.proofs.Moves.{ran_append}
+use Rattle.settling.specs.Steps.{settled_events}
+use Rattle.settling.proofs.Steps.{runs_to}
 use Rattle.image.specs.Image.{image_width, system_in}
 use Rattle.list.specs.List.{Order, orders_in, obeyed, system_after}
 use Rattle.capi.specs.Calls.{Freshens}
@@ -30,8 +33,8 @@ called_ran nothing = refl
 called_ran (step {es} gives rest) = called_ran rest ∙ ap (λ (x : Outcome). ran x.system es) gives.outcome
 called_ran (steps {b} {list} {m} {es} performs rest) =
     called_ran rest ∙ ap (λ (x : System). ran x es) performs.system ∙ orders_ran (system_in b) (orders_in (length m) list) es
-called_ran (settling {b} {ms} {es} tells moves rest) =
-    called_ran rest ∙ ap (λ (x : System). ran x es) (tells.system ∙ sym moves.system) ∙ sym (ran_append (system_in b) ms es)
+called_ran (settling {b} {es} tells rest) =
+    called_ran rest ∙ ap (λ (x : System). ran x es) (tells.system ∙ sym (runs_to 7936 (system_in b))) ∙ sym (ran_append (system_in b) (settled_events 7936 (system_in b)) es)
 
 begun : (n k : ℕ) (a b : List ℕ) → length a ≡ image_width → Freshens n a k b → system_in b ≡ start n
 unfolding pick

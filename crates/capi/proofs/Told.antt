@@ -7,9 +7,10 @@ use Rattle.std.specs.Prelude.{Result, Ok, Err}
 use Rattle.system.specs.declared.refusal.Refusal.{Refusal}
 use Rattle.system.specs.Refusal.{number}
 use Rattle.image.specs.Image.{system_in}
-use Rattle.settle.specs.declared.Ending.TheVariants.{Held}
+use Rattle.settling.specs.declared.Ending.TheVariants.{Held}
+use Rattle.settling.specs.Settle.{Settled, settled}
 use Rattle.settle.specs.declared.Settling.{Settling}
-use Rattle.settle.specs.Settle.{Settled, settled, settled_as, Settles}
+use Rattle.settle.specs.Settles.{settled_as, Settles}
 use Rattle.capi.specs.Calls.{ending_number, Tells}
 
 module _ (budget : ℕ) (b c told : List ℕ) where

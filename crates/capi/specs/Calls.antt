@@ -3,9 +3,9 @@ use Rattle.std.specs.Prelude.{ℕ, min, ◌≡◌, List, ◌++◌, eqb, length, 
 use Rattle.view.specs.Logic.{pick}
 use Rattle.system.specs.Fresh.{fresh_of}
 use Rattle.image.specs.Image.{image_width, system_in}
-use Rattle.settle.specs.declared.Ending.{Ending}
-use Rattle.settle.specs.declared.Ending.TheVariants.{Rest, Held, Budget}
-use Rattle.settle.specs.Settle.{Settled}
+use Rattle.settling.specs.declared.Ending.{Ending}
+use Rattle.settling.specs.declared.Ending.TheVariants.{Rest, Held, Budget}
+use Rattle.settling.specs.Settle.{Settled}
 use Rattle.system.specs.Outcome.{refused}
 
 -- Bytes b become bytes c and the number k is answered: the fresh system of n processes; for a wrong n, 2 and a system of none. Where

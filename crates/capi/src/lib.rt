@@ -12,15 +12,16 @@ ghost use Rattle.image.specs.Image.{system_in};
 ghost use Rattle.alternatives.specs.Gives.{Gives};
 ghost use Rattle.list.specs.List.{Performs};
 ghost use Rattle.run.specs.Output.{output};
-ghost use Rattle.settle.specs.Settle.{settled};
+ghost use Rattle.settling.specs.Settle.{settled};
 ghost use Rattle.capi.specs.Calls.{Freshens, Prints, ending_number, Tells};
+ghost use Rattle.settling.specs.Settle.{settling_budget};
 
 use engine::perform;
 use fresh::put_fresh;
 use image::IMAGE;
 use list::perform_all;
 use plan::{Action, Step};
-use settle::Ending;
+use settling::Ending;
 use system::refusal::{Refusal, number_of};
 use view::{ProcessId, is_one_of};
 
@@ -117,7 +118,7 @@ pub fn lobstercreel_respond_cut(image: &mut [u8], p: u8, q: u8, k: u8) -> u8
     )
 }
 
-// 0 for a system at rest, 1 for one held up, 2 where the budget was used up. No `From`: crate settle declares the
+// 0 for a system at rest, 1 for one held up, 2 where the budget was used up. No `From`: crate settling declares the
 // type and knows nothing of C's numbers.
 #[tactic(auto, unfolding(crate::specs::Calls::ending_number))]
 fn ending_number(e: Ending) -> u16
@@ -141,7 +142,7 @@ pub fn lobstercreel_steps(image: &mut [u8], list: &[u8], numbers: &mut [u8]) -> 
 // ended go into the lent pair.
 #[tactic(auto, using(crate::proofs::Told::run_told, crate::proofs::Told::refusal_told))]
 pub fn lobstercreel_settle(image: &mut [u8], told: &mut [u16; 2]) -> u8
-    ensures { Tells (settled 7936 (system_in image.old)) image.old result image.new told.old told.new }
+    ensures { Tells (settled settling_budget (system_in image.old)) image.old result image.new told.old told.new }
 {
     match settle::settle(image) {
         Ok(run) => {

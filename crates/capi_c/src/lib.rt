@@ -10,8 +10,9 @@ ghost use Rattle.image.specs.Image.{system_in};
 ghost use Rattle.alternatives.specs.Gives.{Gives};
 ghost use Rattle.list.specs.List.{Performs};
 ghost use Rattle.run.specs.Output.{output};
-ghost use Rattle.settle.specs.Settle.{settled};
+ghost use Rattle.settling.specs.Settle.{settled};
 ghost use Rattle.capi.specs.Calls.{Freshens, Prints, Tells};
+ghost use Rattle.settling.specs.Settle.{settling_budget};
 
 // The image of the fresh system of n processes.
 #[unsafe(no_mangle)]
@@ -89,7 +90,7 @@ pub extern "C" fn lobstercreel_steps(image: &mut [u8], list: &[u8], numbers: &mu
 // ended go into the lent pair.
 #[unsafe(no_mangle)]
 pub extern "C" fn lobstercreel_settle(image: &mut [u8], told: &mut [u16; 2]) -> u8
-    ensures { Tells (settled 7936 (system_in image.old)) image.old result image.new told.old told.new }
+    ensures { Tells (settled settling_budget (system_in image.old)) image.old result image.new told.old told.new }
 {
     capi::lobstercreel_settle(image, told)
 }

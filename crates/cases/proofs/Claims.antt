@@ -11,15 +11,16 @@ use Rattle.system.specs.Process.{entry_at, with_entry, as_crashed, pending_at, w
 use Rattle.system.specs.System.{no_process, process_at, with_process, channel_number, channel_at, with_channel, trust_at, with_trust, trusting, sent, sent_if_named, broadcasted, takes_if_named, room_for}
 use Rattle.system.specs.Fresh.{fresh_variables, fresh_process, fresh_system, fresh_of}
 use Rattle.system.specs.Outcome.{refused}
-use Rattle.sound.specs.Sound.{every, sound_proposal, sound_message, sound_pending, sound_channel, sound_history, sound_variables, sound_process, sound_channel_at, sound_at, sound_system}
+use Rattle.sound.specs.Sound.{every, sound_proposal, sound_message, sound_pending, sound_channel, sound_history, sound_variables, sound_process, sound_process_at, sound_channel_at, sound_channels_from, sound_processes, sound_channels, sound_system}
 use Rattle.plan.specs.declared.Step.{Step}
 use Rattle.plan.specs.Plan.{changed, new_view_plan, report_plan, committing_plan, message_plan, receive_plan, respond_plan}
-use Rattle.step.specs.Scope.{scope_of}
-use Rattle.plan.specs.Cut.{cut_short, cut_by}
-use Rattle.step.specs.Step.{plan_of, taken_off, departed, suspected_if_named, doubted, changed_at, emptied_from, crashed_at, crashed_if, effected, carried_out, permitted, attempted, stepped, happened, ran}
+use Rattle.plan.specs.Scope.{scope_of}
+use Rattle.plan.specs.Cut.{reach_of, cut_by}
+use Rattle.step.specs.Step.{plan_of, taken_off, departed, suspected_if_named, doubted, changed_at, emptied_from, crashed_at, crashed_if, effected, carried_out, permitted, attempted, stepped}
 use Rattle.step.specs.Rest.{idle_from, matches, answerable, resting_from, resting_at, at_rest}
-use Rattle.settle.specs.Settle.{passing, tried, move_of, tried_with, tried_at, half_done, round_done, unless_idle, rounds_done, refused_at, all_refused_at, none_done, nothing_to_do, ending_of, ended_with, settled}
-use Rattle.agreement.specs.Accepted.{accepted_from, accepted_as, accepted_by, accepted_in, accepted}
+use Rattle.events.specs.Event.{happened, ran, moved, moves_of, moves_then, moves_in, grown}
+use Rattle.settling.specs.Settle.{passing, tried, move_of, tried_with, tried_at, half_done, round_done, unless_idle, rounds_done, refused_at, all_refused_at, none_done, nothing_to_do, ending_of, ended_with, settled}
+use Rattle.agreement.specs.Accepted.{accepted_from, accepted_then, accepted_in, accepted}
 use Rattle.agreement.specs.Book.{book_entry, opened_book, apart, apart_from, admits, written_in, made_in, fed, fed_all, none_refused}
 use Rattle.agreement.specs.Demand.{start}
 use Rattle.print.specs.Text.{bytes, text_up_to, digits, decimal, member_text, view_text}
@@ -44,12 +45,13 @@ unfolding pick all_up_to each_up_to at put has within with minus switched everyo
     entry_at with_entry as_crashed pending_at with_pending with_variables with_history
     no_process process_at with_process channel_number channel_at with_channel trust_at with_trust trusting sent sent_if_named broadcasted takes_if_named room_for
     fresh_variables fresh_process fresh_system fresh_of
-    every sound_proposal sound_message sound_pending sound_channel sound_history sound_variables sound_process sound_channel_at sound_at sound_system
-    changed new_view_plan report_plan committing_plan message_plan receive_plan respond_plan scope_of cut_short cut_by
-    plan_of taken_off departed suspected_if_named doubted changed_at emptied_from crashed_at crashed_if effected carried_out permitted attempted stepped happened ran
+    every sound_proposal sound_message sound_pending sound_channel sound_history sound_variables sound_process sound_process_at sound_channel_at sound_channels_from sound_processes sound_channels sound_system
+    changed new_view_plan report_plan committing_plan message_plan receive_plan respond_plan scope_of reach_of cut_by
+    plan_of taken_off departed suspected_if_named doubted changed_at emptied_from crashed_at crashed_if effected carried_out permitted attempted stepped
+    happened ran moved moves_of moves_then moves_in grown
     idle_from matches answerable resting_from resting_at at_rest
     passing tried move_of tried_with tried_at half_done round_done unless_idle rounds_done refused_at all_refused_at none_done nothing_to_do ending_of ended_with settled
-    accepted_from accepted_as accepted_by accepted_in accepted
+    accepted_from accepted_then accepted_in accepted
     book_entry opened_book apart apart_from admits written_in made_in fed fed_all none_refused
     bytes text_up_to digits decimal member_text view_text
     numbered_line column_line entry_text entry_text_at history_text unit_line unit_of unit_lines

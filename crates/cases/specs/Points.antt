@@ -9,7 +9,7 @@ use Rattle.system.specs.Outcome.{Outcome, done, refused}
 use Rattle.system.specs.Process.{index}
 use Rattle.print.specs.Text.{bytes}
 use Rattle.step.specs.Step.{stepped}
-use Rattle.settle.specs.Settle.{settled}
+use Rattle.settling.specs.Settle.{settled, settling_budget}
 use Rattle.sheet.specs.declared.parse.BadFrom.{BadFrom}
 use Rattle.sheet.specs.declared.parse.Line.{Line}
 use Rattle.sheet.specs.declared.parse.Line.TheVariants.{Step, Settle}
@@ -32,7 +32,7 @@ refuses s l k = point s l (refused k s)
 unfoldable pub line_outcome : System → Result Line BadFrom → Outcome
 line_outcome s (Err bad) = refused 8 s
 line_outcome s (Ok (Step o)) = stepped s o
-line_outcome s (Ok Settle) = record { refusal = (settled 7936 s).refusal; system = (settled 7936 s).system }
+line_outcome s (Ok Settle) = record { refusal = (settled settling_budget s).refusal; system = (settled settling_budget s).system }
 
 -- by the definitions
 unfoldable pub outcome_of : Point → Outcome

@@ -3,9 +3,9 @@ use Rattle.std.specs.Prelude.{ℕ, List, [], ◌∷◌, replicate}
 use Rattle.channel.specs.declared.Message.TheVariants.{Propose, Retry, Acc, Commit}
 use Rattle.system.specs.declared.System.{System}
 use Rattle.system.specs.Process.{index}
-use Rattle.settle.specs.declared.Ending.{Ending}
-use Rattle.settle.specs.declared.Ending.TheVariants.{Rest, Held, Budget}
-use Rattle.settle.specs.Settle.{Settled, settled}
+use Rattle.settling.specs.declared.Ending.{Ending}
+use Rattle.settling.specs.declared.Ending.TheVariants.{Rest, Held, Budget}
+use Rattle.settling.specs.Settle.{Settled, settled}
 use Rattle.cases.specs.Systems.{two, with_values, with_stop, with_record, with_written, with_messages}
 
 pub record SettlingPoint : Type 0 where

@@ -9,7 +9,7 @@ use Rattle.system.specs.declared.System.{System}
 use Rattle.system.specs.Outcome.{Outcome}
 use Rattle.system.specs.System.{channel_at}
 use Rattle.system.specs.Fresh.{fresh_system}
-use Rattle.step.specs.Step.{Event, does, ran}
+use Rattle.events.specs.Event.{Event, does, ran}
 use Rattle.print.specs.Text.{bytes}
 use Rattle.sheet.specs.declared.parse.BadFrom.{BadFrom}
 use Rattle.sheet.specs.declared.parse.Line.{Line}

@@ -6,7 +6,7 @@ use Rattle.std.specs.Prelude.{Some}
 use native.Mathlib.Omega.{arith}
 use native.Mathlib.Numerals.{add-one, sub-one}
 use native.Mathlib.Nat.{not-suc-le-zero}
-use borrow.Author.Tests.{lt-ltb, ltb-true}
+use borrow.Author.Tests.{lt-ltb, ltb-true, ltb-false}
 use lib.Dec.{ltb}
 use lib.ListN.{length, get_or, take, drop, length-set, length-append, length-drop, length-take}
 use lib.Seq.{take-suc-set, take-append-le}
@@ -72,6 +72,14 @@ empty_short = omega arith
 pub empty-waiting : waiting empty_channel ≡ []
 unfolding empty_channel waiting
 empty-waiting = refl
+
+pub empty-popped : popped empty_channel ≡ empty_channel
+unfolding empty_channel popped pick
+empty-popped = refl
+
+pub popped_len : (c : Channel) → (popped c).len ≡ c.len - 1
+unfolding popped
+popped_len c = by_pick (λ (d : Channel). d.len ≡ c.len - 1) (ltb 0 c.len) _ c (λ t. refl) (λ t. omega (arith, ltb-false 0 c.len t))
 
 -- as many wait as the length says
 pub length-waiting : (c : Channel) → length c.slots ≡ 8 → c.len ≤ 8 → length (waiting c) ≡ c.len

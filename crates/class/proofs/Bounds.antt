@@ -1,4 +1,4 @@
--- The line of a name has at most 412 bytes: 255 of the name, six numbers of at most twenty digits, and the words between them.
+-- The longest line of a name: 255 bytes of the name, six numbers of at most twenty digits, and the words between them.
 use Prim.Native.Nat.{ℕ, ◌≤◌}
 use mathlib.Core.List.{List}
 use Rattle.std.specs.Prelude.{Ok, Err}
@@ -10,7 +10,8 @@ use Rattle.tallies.specs.Share.{share_of}
 use Rattle.print.specs.Text.{bytes}
 use Rattle.print.proofs.Bounds.{AtMost, both, twenty_digits}
 use Rattle.class.specs.declared.Uncounted.TheVariants.{Unopened, TooLong}
-use Rattle.class.specs.Class.{Finding, share_text, counts_text, finding_text, name_line}
+use Rattle.class.specs.declared.TheConstants.{LINE_LIMIT}
+use Rattle.class.specs.Class.{Finding, name_limit, share_text, counts_text, finding_text, name_line}
 
 record Words : Type 0 where
   sent : AtMost 6 (bytes " sent ")
@@ -59,9 +60,9 @@ finding_length (Ok t) = counts_length t
 finding_length (Err Unopened) = words.unopened
 finding_length (Err TooLong) = words.long
 
-name_length : (name : List ℕ) → AtMost 255 (take 255 name)
+name_length : (name : List ℕ) → AtMost name_limit (take name_limit name)
 name_length name = record { bytes_are = simp length-take (omega arith) }
 
-pub line_length_lem : (name : List ℕ) (f : Finding) → length (name_line name f) ≤ 412
+pub line_length_lem : (name : List ℕ) (f : Finding) → length (name_line name f) ≤ LINE_LIMIT
 unfolding name_line
 line_length_lem name f = (both (both (name_length name) (finding_length f)) words.feed).bytes_are

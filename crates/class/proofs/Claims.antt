@@ -1,18 +1,18 @@
 -- The worked examples read as they are to, by computation.
 use mathlib.Core.Path.{◌≡◌, refl}
 use mathlib.Core.List.{map, flat_map}
-use Rattle.view.specs.Logic.{pick, all_up_to, each_up_to, sum_up_to, at, put}
+use Rattle.view.specs.Logic.{pick, all_up_to, each_up_to, sum_up_to, at, put, one}
 use Rattle.view.specs.View.{has, within, with, minus, switched, everyone, first_from, least_of, counted_at, count_of, joined, first_members}
 use Rattle.channel.specs.Channel.{empty_channel, waiting, pushed, popped}
 use Rattle.system.specs.Process.{entry_at, with_entry, as_crashed, pending_at, with_pending, with_variables, with_history}
 use Rattle.system.specs.System.{no_process, process_at, with_process, channel_number, channel_at, with_channel, trust_at, with_trust, trusting, sent, sent_if_named, broadcasted, takes_if_named, room_for}
 use Rattle.system.specs.Fresh.{fresh_variables, fresh_process, fresh_system, fresh_of}
-use Rattle.sound.specs.Sound.{every, sound_proposal, sound_message, sound_pending, sound_channel, sound_history, sound_variables, sound_process, sound_channel_at, sound_at, sound_system}
+use Rattle.sound.specs.Sound.{every, sound_proposal, sound_message, sound_pending, sound_channel, sound_history, sound_variables, sound_process, sound_process_at, sound_channel_at, sound_channels_from, sound_processes, sound_channels, sound_system}
 use Rattle.plan.specs.Plan.{changed, new_view_plan, report_plan, committing_plan, message_plan, receive_plan, respond_plan}
-use Rattle.step.specs.Scope.{scope_of}
-use Rattle.plan.specs.Cut.{cut_short, cut_by}
-use Rattle.step.specs.Step.{plan_of, taken_off, departed, suspected_if_named, doubted, changed_at, emptied_from, crashed_at, crashed_if, effected, carried_out, permitted, attempted, stepped, happened}
-use Rattle.step.specs.Counts.{waiting_towards, waiting_in, one, vanishes_at, vanished, lost_at, is_commit, plan_tally, tally_if, step_tally, event_tally, still_waiting}
+use Rattle.plan.specs.Scope.{scope_of}
+use Rattle.plan.specs.Cut.{reach_of, cut_by}
+use Rattle.step.specs.Step.{plan_of, taken_off, departed, suspected_if_named, doubted, changed_at, emptied_from, crashed_at, crashed_if, effected, carried_out, permitted, attempted, stepped}
+use Rattle.events.specs.Counts.{waiting_towards, waiting_in, vanishes_at, vanished, lost_at, is_commit, plan_tally, tally_if, step_tally, done_tally, still_waiting}
 use Rattle.tallies.specs.Tally.{no_tally, plus, capped}
 use Rattle.tallies.specs.Share.{euclid, gcd, in_lowest_terms}
 use Rattle.print.specs.Text.{bytes, digits, decimal}
@@ -31,12 +31,12 @@ unfolding pick all_up_to each_up_to sum_up_to at put
     entry_at with_entry as_crashed pending_at with_pending with_variables with_history
     no_process process_at with_process channel_number channel_at with_channel trust_at with_trust trusting sent sent_if_named broadcasted takes_if_named room_for
     fresh_variables fresh_process fresh_system fresh_of
-    every sound_proposal sound_message sound_pending sound_channel sound_history sound_variables sound_process sound_channel_at sound_at sound_system
+    every sound_proposal sound_message sound_pending sound_channel sound_history sound_variables sound_process sound_process_at sound_channel_at sound_channels_from sound_processes sound_channels sound_system
     changed new_view_plan report_plan committing_plan message_plan receive_plan respond_plan
     scope_of
-    cut_short cut_by
-    plan_of taken_off departed suspected_if_named doubted changed_at emptied_from crashed_at crashed_if effected carried_out permitted attempted stepped happened
-    waiting_towards waiting_in one vanishes_at vanished lost_at is_commit plan_tally tally_if step_tally event_tally still_waiting
+    reach_of cut_by
+    plan_of taken_off departed suspected_if_named doubted changed_at emptied_from crashed_at crashed_if effected carried_out permitted attempted stepped
+    waiting_towards waiting_in one vanishes_at vanished lost_at is_commit plan_tally tally_if step_tally done_tally still_waiting
     no_tally plus capped
     euclid gcd in_lowest_terms
     bytes digits decimal

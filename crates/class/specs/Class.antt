@@ -10,7 +10,7 @@ use Rattle.tallies.specs.declared.share.Share.{Share}
 use Rattle.tallies.specs.Tally.{no_tally, plus, capped}
 use Rattle.tallies.specs.Share.{share_of}
 use Rattle.print.specs.Text.{bytes, decimal}
-use Rattle.run.specs.Output.{sheet_tally}
+use Rattle.run.specs.Output.{sheet_tally, sheet_limit}
 use Rattle.class.specs.declared.Uncounted.{Uncounted}
 use Rattle.class.specs.declared.Uncounted.TheVariants.{Unopened, TooLong}
 
@@ -43,8 +43,11 @@ finding_text (Err Unopened) = bytes " unopened"
 finding_text (Err TooLong) = bytes " long"
 
 -- "a name over 255 bytes is unopened, its first 255 printed"
+abbrev pub name_limit : ℕ
+name_limit = 255
+
 unfoldable pub name_line : List ℕ → Finding → List ℕ
-name_line name finding = take 255 name ++ finding_text finding ++ bytes "\n"
+name_line name finding = take name_limit name ++ finding_text finding ++ bytes "\n"
 
 -- ---- what came of a name
 -- a name, and what was read of its sheet, where that was opened and read
@@ -62,11 +65,11 @@ named name sheet = record { name = name; sheet = bytes_read sheet }
 -- a sheet of more than 60,000 bytes is a long one
 unfoldable pub counted : Option (List ℕ) → Finding
 counted None = Err Unopened
-counted (Some sheet) = pick (ltb 60000 (length sheet)) (Err TooLong) (Ok (sheet_tally sheet))
+counted (Some sheet) = pick (ltb sheet_limit (length sheet)) (Err TooLong) (Ok (sheet_tally sheet))
 
 -- "a name over 255 bytes is unopened"
 unfoldable pub finding_of : Named → Finding
-finding_of x = pick (ltb 255 (length x.name)) (Err Unopened) (counted x.sheet)
+finding_of x = pick (ltb name_limit (length x.name)) (Err Unopened) (counted x.sheet)
 
 -- "adds nothing"
 unfoldable pub adds_of : Finding → Tally

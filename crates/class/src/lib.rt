@@ -6,7 +6,7 @@ ghost use Rattle.tallies.specs.Share.{share_of};
 ghost use Rattle.print.specs.Text.{decimal};
 ghost use Rattle.print.specs.Page.{typed_on, StandsFirst};
 ghost use Rattle.run.specs.Output.{sheet_tally};
-ghost use Rattle.class.specs.Class.{share_text, counts_text, finding_text, name_line, named, finding_of, adds_of, lined, all_line};
+ghost use Rattle.class.specs.Class.{name_limit, share_text, counts_text, finding_text, name_line, named, finding_of, adds_of, lined, all_line};
 
 pub mod names;
 
@@ -66,7 +66,7 @@ fn put_finding(page: &mut Page, finding: Result<Tally, Uncounted>)
 
 // The first bytes of a name.
 fn put_name(page: &mut Page, name: &[u8])
-    ensures { page.new ≡ typed_on page.old (take 255 name.now) }
+    ensures { page.new ≡ typed_on page.old (take name_limit name.now) }
 {
     page.text(&name[..NAME_LIMIT.min(name.len())]);
 }

@@ -3,47 +3,41 @@ use Prim.Native.Nat.{ℕ, zero, suc, ◌+◌, ◌-◌, ◌≤◌, ◌<◌}
 use mathlib.Core.Path.{◌≡◌, refl, sym, ◌∙◌, ap, subst}
 use mathlib.Core.Bool.{Bool, true, false, ◌&&◌}
 use mathlib.Core.List.{List}
-use native.Mathlib.Decide.{dec_le, dec_lt}
-use native.Mathlib.Nat.{lt_of_not-le}
 use native.Mathlib.Omega.{arith}
-use borrow.Author.Tests.{lt-ltb, eq-eqb, ne_eqb, eqb-true, eqb-false}
+use borrow.Author.Tests.{ne_eqb, eqb-true, eqb-false}
 use lib.Dec.{eqb}
 use lib.ListN.{length, get_or, drop}
 use lib.Seq.{get_or-drop}
 use Rattle.std.proofs.Common.{Fits, w8, Result, Ok, Err}
 use Rattle.std.specs.Result.{result_and}
-use Rattle.view.specs.Logic.{is_one_of, pick, sum_up_to, at}
-use Rattle.view.proofs.Laws.{by_pick, by_number, at_put_other}
+use Rattle.view.specs.Logic.{is_one_of, pick, sum_up_to, at, one}
+use Rattle.view.proofs.Laws.{by_pick}
 use Rattle.view.proofs.Sums.{sum_at_most}
 use Rattle.tallies.specs.declared.Tally.{Tally}
 use Rattle.tallies.specs.Tally.{no_tally}
-use Rattle.channel.specs.declared.Channel.{Channel}
-use Rattle.channel.specs.Channel.{empty_channel, popped}
+use Rattle.channel.specs.Channel.{empty_channel}
+use Rattle.channel.proofs.Laws.{popped_len}
 use Rattle.system.specs.declared.System.{System}
 use Rattle.system.specs.Outcome.{Outcome, refused}
 use Rattle.system.specs.declared.refusal.Refusal.{Refusal}
+use Rattle.system.specs.declared.refusal.Refusal.TheVariants.{Stranger, Crashed}
 use Rattle.system.specs.Refusal.{number, answer_number}
-use Rattle.system.specs.System.{variables_at, process_at, channel_number, channel_at, with_channel}
+use Rattle.system.specs.System.{variables_at, channel_number, channel_at}
 use Rattle.sound.specs.Sound.{sound_system}
 use Rattle.plan.specs.declared.Scope.{Scope}
 use Rattle.plan.specs.declared.Step.{Step}
-use Rattle.step.specs.Scope.{scope_of}
-use Rattle.system.specs.declared.Variables.{Variables}
-use Rattle.plan.specs.declared.Plan.{Plan}
-use Rattle.plan.specs.declared.Cut.{Cut}
-use Rattle.plan.specs.declared.Cut.TheVariants.{Whole, After}
+use Rattle.plan.specs.Scope.{scope_of}
 use Rattle.plan.specs.Plan.{Planned}
-use Rattle.plan.specs.Cut.{cut_by, cut_short}
-use Rattle.step.specs.Step.{plan_of, taken_off, carried_out, permitted, attempted, does, happened}
-use Rattle.step.specs.Counts.{waiting_from, waiting_towards, one, vanishes_at, vanished, tally_if, step_tally, event_tally}
+use Rattle.plan.specs.Cut.{cut_by}
+use Rattle.step.specs.Step.{plan_of, taken_off, if_allowed, carried_out, permitted, attempted}
+use Rattle.events.specs.Counts.{waiting_from, waiting_towards, vanishes_at, vanished, tally_if, step_tally, done_tally}
 use Rattle.step.proofs.Inversion.{sound_stepped}
+use Rattle.step.proofs.TakenOff.{taken_variables, taken_channel}
 use Rattle.step.proofs.Weights.{one_small}
 use Rattle.image.specs.Image.{image_width, channel_width, channels_place, length_place, rows, channel_in, decoded, no_system, system_in}
 use Rattle.alternatives.proofs.Carrying.{some_number}
 use Rattle.engine.specs.Engine.{Attempts}
-use Rattle.counting.specs.Plans.{planned, planned_of}
 use Rattle.counting.specs.Tallied.{counted, Counts}
-use Rattle.effects.proofs.Laws.{popped_at, same_ends}
 
 -- ---- who vanishes
 pub few_vanish : (s : System) (to : ℕ) → sum_up_to 8 (vanishes_at s to) ≤ 8
@@ -51,64 +45,16 @@ unfolding vanishes_at
 few_vanish s to = omega (arith, sum_at_most 8 (vanishes_at s to) 1 (λ k l u. one_small _))
 
 -- ---- once the taken message is off
-pub taken_size : (s : System) (c : Scope) → s.n ≡ (taken_off s c).n
-unfolding taken_off with_channel
-taken_size s c = by_pick (λ (t : System). s.n ≡ t.n) c.takes _ _ (λ e. refl) (λ e. refl)
-
 -- as many have crashed as before
 pub taken_vanished : (s : System) (c : Scope) (to : ℕ) → vanished s to ≡ vanished (taken_off s c) to
-unfolding taken_off vanished vanishes_at process_at with_channel
-taken_vanished s c to = by_pick (λ (t : System). vanished s to ≡ vanished t to) c.takes _ _ (λ e. refl) (λ e. refl)
-
-popped_len : (c : Channel) → (popped c).len ≡ c.len - 1
-unfolding popped pick
-popped_len c =
-    elim (dec_lt 0 c.len) [
-      | yes some ↦ rw (lt-ltb 0 c.len some)
-      | no none ↦ let e : c.len ≡ 0 = omega (arith, lt_of_not-le none) in rw e
-    ]
-
--- how many wait from q to p, once the oldest message from a to p is off
-abbrev len_off : System → ℕ → ℕ → ℕ → Type 0
-len_off s a p q = (channel_at (with_channel s a p (popped (channel_at s a p))) q p).len ≡ (channel_at s q p).len - one (eqb q a)
-
-len_own : (s : System) (p q : ℕ) → len_off s q p q
-unfolding channel_at with_channel one pick
-len_own s p q = rw (popped_at s.channels (channel_number q p), eq-eqb q q refl) (popped_len (channel_at s q p))
-
-len_nowhere : (s : System) (a p q : ℕ) → channel_number q p ≡ 0 → len_off s a p q
-unfolding channel_at with_channel at empty_channel
-len_nowhere s a p q e = rw e (omega arith)
-
-len_elsewhere : (s : System) (a p q : ℕ) → (q ≡ a → ⊥) → (channel_number q p ≡ channel_number a p → ⊥) → len_off s a p q
-unfolding channel_at with_channel one pick
-len_elsewhere s a p q other h = rw (at_put_other s.channels (channel_number a p) (channel_number q p) (popped (channel_at s a p)) empty_channel h, ne_eqb q a other) (omega arith)
-
-len_off_lem : (s : System) (a p q : ℕ) → len_off s a p q
-len_off_lem s a p q =
-    by_number q a
-    (λ e. subst (λ (b : ℕ). len_off s b p q) e (len_own s p q))
-    (λ other.
-    elim (dec_le 1 (channel_number q p)) [
-      | yes some ↦ len_elsewhere s a p q other (λ e. other (sym (same_ends q p a p some (sym e)).0))
-      | no none ↦ len_nowhere s a p q (omega (arith, lt_of_not-le none))
-    ])
-
-no_less : (k : ℕ) → k ≡ k - one false
-unfolding one pick
-no_less k = omega arith
+unfolding vanished vanishes_at sum_up_to
+taken_vanished s c to = simp taken_variables
 
 -- the code's count of one channel
 pub taken_len : (s : System) (c : Scope) (q : ℕ)
     → (channel_at (taken_off s c) q c.actor.0).len ≡ (channel_at s q c.actor.0).len - one (c.takes && eqb q c.partner.0)
-unfolding taken_off pick
-taken_len s c q = go c.takes
-  where
-    go : (t : Bool)
-        → (channel_at (pick t (with_channel s c.partner.0 c.actor.0 (popped (channel_at s c.partner.0 c.actor.0))) s) q c.actor.0).len
-        ≡ (channel_at s q c.actor.0).len - one (t && eqb q c.partner.0)
-    go true = len_off_lem s c.partner.0 c.actor.0 q
-    go false = no_less _
+unfolding one pick
+taken_len s c q = grind (arith, taken_channel, popped_len)
 
 -- ---- how many wait at most, where each byte is below 256
 abbrev Bytes : List ℕ → Type 0
@@ -149,18 +95,6 @@ few_at b small p = few_from b small (system_in b).n p (size_low b small)
 pub few_in : (b : List ℕ) → Bytes b → (n : ℕ) → n < 256 → sum_up_to n (waiting_towards (system_in b)) ≤ 16581375
 few_in b small n low = omega (arith, sum_at_most n (waiting_towards (system_in b)) 65025 (λ p l u. few_at b small p))
 
--- ---- a plan, cut or not
--- the plan of a cut, from that of the action
-pub planned_cut : (x : Variables) (cut : Cut) (a r : Result Plan Refusal) (b c : Plan) (w : Planned) → a ≡ Ok b → r ≡ Ok c
-    → planned_of x a ≡ w → planned_of b.change.variables r ≡ cut_by cut (planned b) → planned c ≡ cut_by cut w
-planned_cut x cut a r b c w e f whole after =
-    subst (λ (y : Planned). planned c ≡ cut_by cut y) (subst (λ (y : Result Plan Refusal). planned_of x y ≡ w) e whole) (subst (λ (y : Result Plan Refusal). planned_of b.change.variables y ≡ cut_by cut (planned b)) f after)
-
-pub cut_refused : (cut : Cut) (a : Planned) → (a.refusal ≡ 0 → ⊥) → cut_by cut a ≡ a
-unfolding cut_by cut_short pick
-cut_refused Whole a some = refl
-cut_refused (After k) a some = rw (ne_eqb a.refusal 0 some)
-
 -- ---- a step that is done, and one that is not
 -- the plan of a step that is done is not refused
 planned_if_done : (s : System) (o : Step) → (attempted s o).refusal ≡ 0 → (cut_by o.cut (plan_of s o.action)).refusal ≡ 0
@@ -177,7 +111,7 @@ planned_if_done s o done = acts (is_one_of s.n c.actor.0 && is_one_of s.n c.part
     carried true is x e = eqb-true a.refusal 0 is
     carried false is x e = e
 
-    acts : (named crashed : Bool) → (pick named (pick crashed (refused 3 s) (carried_out s (taken_off s c) c.actor.0 a)) (refused 2 s)).refusal ≡ 0 → a.refusal ≡ 0
+    acts : (named crashed : Bool) → (if_allowed s (pick named (pick crashed (Err Crashed) (Ok tt)) (Err Stranger)) (carried_out s (taken_off s c) c.actor.0 a)).refusal ≡ 0 → a.refusal ≡ 0
     acts true true e = absurd (omega (arith, e))
     acts true false e = carried (eqb a.refusal 0) refl _ e
     acts false crashed e = absurd (omega (arith, e))
@@ -196,10 +130,10 @@ module _ (o : Step) (b d : List ℕ) where
   tallied (Err r) counts gave never =
       (gave, rw (← answered (number r) gave, some_number r) refl)
 
--- where the system is sound, what a step counts is what the event counts
-pub event_counts : (s : System) (o : Step) → sound_system s ≡ true → step_tally s o ≡ event_tally s (does o)
-unfolding event_tally happened step_tally tally_if pick
-event_counts s o sound = rw (sound_stepped s o sound) (go (eqb (attempted s o).refusal 0) _)
+-- where the system is sound, a step counts what it counts on any
+pub sound_counts : (s : System) (o : Step) → sound_system s ≡ true → step_tally s o ≡ done_tally s o
+unfolding done_tally step_tally tally_if pick
+sound_counts s o sound = rw (sound_stepped s o sound) (go (eqb (attempted s o).refusal 0) _)
   where
     go : (t : Bool) (a : Tally) → pick t a no_tally ≡ pick t (pick t a no_tally) no_tally
     go true a = refl

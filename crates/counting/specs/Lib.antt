@@ -1,3 +1,2 @@
--- What the program's plans are in the definitions' own form, and what its answers count.
-pub mod Plans
+-- What the program's answers count.
 pub mod Tallied

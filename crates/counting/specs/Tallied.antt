@@ -7,9 +7,9 @@ use Rattle.system.specs.declared.refusal.Refusal.{Refusal}
 use Rattle.system.specs.Refusal.{number}
 use Rattle.plan.specs.declared.Step.{Step}
 use Rattle.plan.specs.Cut.{cut_by}
-use Rattle.step.specs.Scope.{scope_of}
+use Rattle.plan.specs.Scope.{scope_of}
 use Rattle.step.specs.Step.{plan_of, taken_off}
-use Rattle.step.specs.Counts.{plan_tally}
+use Rattle.events.specs.Counts.{plan_tally}
 
 -- what an answer counts: a step that is refused counts nothing
 abbrev pub counted : Result Tally Refusal → Tally

@@ -4,27 +4,25 @@
 ghost use Rattle.std.specs.Prelude.{◌≤◌, ◌≡◌};
 ghost use Rattle.system.specs.System.{variables_at, channel_at};
 ghost use Rattle.system.specs.Refusal.{answer_number};
-ghost use Rattle.step.specs.Scope.{scope_of};
+ghost use Rattle.plan.specs.Scope.{scope_of};
 ghost use Rattle.step.specs.Step.{plan_of, taken_off};
-ghost use Rattle.step.specs.Counts.{waiting_towards, waiting_in, still_waiting, vanishes_at, vanished, lost_at, is_commit, plan_counts, plan_tally, step_tally};
+ghost use Rattle.events.specs.Counts.{waiting_towards, waiting_in, still_waiting, vanishes_at, vanished, lost_at, is_commit, plan_counts, plan_tally, step_tally};
 ghost use Rattle.image.specs.Image.{system_in};
 ghost use Rattle.engine.specs.Engine.{Attempts};
-ghost use Rattle.counting.specs.Plans.{planned, planned_of};
+ghost use Rattle.plan.specs.ByValue.{planned, planned_of};
 ghost use Rattle.counting.specs.Tallied.{counted, Counts};
-
-pub mod plans;
 
 use channel::Message;
 use engine::attempt;
 use image::{front_at, length_at, pending_at, size, trust_at, variables_at};
+use plan::plans::{cut_by, plan_from, scope_of};
 use plan::{Action, Plan, Scope, Step};
-use plans::{cut_by, scope_of};
 use system::refusal::Refusal;
 use tallies::Tally;
 use view::{GroupIndex, ProcessId, count, has};
 
 // How many messages wait from process q towards the actor, once the taken one is off.
-#[tactic(auto, using(crate::proofs::Counting::taken_len), unfolding(step::specs::Counts::one, view::specs::Logic::pick))]
+#[tactic(auto, using(crate::proofs::Counting::taken_len), unfolding(view::specs::Logic::one, view::specs::Logic::pick))]
 fn waiting_from(image: &[u8], c: Scope, q: ProcessId) -> u8
     ensures { result ≡ (channel_at (taken_off (system_in image.now) c) q.0 c.actor.0).len }
 {
@@ -49,7 +47,7 @@ fn waiting_in(image: &[u8]) -> u64
 }
 
 // What waits in the end, as a tally.
-#[tactic(auto, unfolding(step::specs::Counts::still_waiting, tallies::specs::Tally::no_tally))]
+#[tactic(auto, unfolding(events::specs::Counts::still_waiting, tallies::specs::Tally::no_tally))]
 pub fn still_waiting(image: &[u8]) -> Tally
     ensures { result ≡ still_waiting (system_in image.now) }
 {
@@ -60,7 +58,7 @@ pub fn still_waiting(image: &[u8]) -> Tally
 }
 
 // Process p is an addressee, and has crashed.
-#[tactic(auto, unfolding(step::specs::Counts::vanishes_at, step::specs::Counts::one, view::specs::Logic::pick))]
+#[tactic(auto, unfolding(events::specs::Counts::vanishes_at, view::specs::Logic::one, view::specs::Logic::pick))]
 fn vanishes_at(image: &[u8], to: u8, p: ProcessId) -> u64
     ensures { result ≡ vanishes_at (system_in image.now) to p.0 }
 {
@@ -75,7 +73,7 @@ fn vanished(image: &[u8], to: u8) -> u64
 }
 
 // How many messages are lost if the plan of the actor is carried out.
-#[tactic(auto, using(crate::proofs::Counting::taken_vanished), unfolding(step::specs::Counts::lost_at, step::specs::Counts::one, view::specs::Logic::pick))]
+#[tactic(auto, using(crate::proofs::Counting::taken_vanished), unfolding(events::specs::Counts::lost_at, view::specs::Logic::one, view::specs::Logic::pick))]
 fn lost(image: &[u8], c: Scope, a: Plan) -> u64
     ensures { result ≡ lost_at (taken_off (system_in image.now) c) c.actor.0 (planned a) }
 {
@@ -88,7 +86,7 @@ fn lost(image: &[u8], c: Scope, a: Plan) -> u64
     }
 }
 
-#[tactic(auto, unfolding(step::specs::Counts::is_commit))]
+#[tactic(auto, unfolding(events::specs::Counts::is_commit))]
 fn is_commit(m: Message) -> bool
     ensures { result ≡ is_commit m }
 {
@@ -96,7 +94,7 @@ fn is_commit(m: Message) -> bool
 }
 
 // What a plan counts, from PropOut before it, if so many messages are lost.
-#[tactic(auto, unfolding(step::specs::Counts::one, view::specs::Logic::pick, tallies::specs::Tally::no_tally))]
+#[tactic(auto, unfolding(view::specs::Logic::one, view::specs::Logic::pick, tallies::specs::Tally::no_tally))]
 fn plan_counts(c: Scope, a: Plan, before: GroupIndex, lost: u64) -> Tally
     ensures { result ≡ plan_counts c (planned a) before.0 lost }
 {
@@ -112,27 +110,23 @@ fn plan_counts(c: Scope, a: Plan, before: GroupIndex, lost: u64) -> Tally
 }
 
 // What the acting process plans if it is not cut.
-#[tactic(auto, unfolding(step::specs::Step::plan_of, step::specs::Scope::scope_of))]
+#[tactic(auto, unfolding(step::specs::Step::plan_of))]
 fn plan_of(image: &[u8], o: Action) -> Result<Plan, Refusal>
     ensures { planned_of (variables_at (system_in image.now) (scope_of o).actor.0) result ≡ plan_of (system_in image.now) o }
 {
-    match o {
-        Action::Report(p, view) => {
-            let x = variables_at(image, p);
-            plans::report_plan(size(image), p, view, x, trust_at(image, p))
-        }
-        Action::Receive(q, p) => {
-            plans::receive_plan(q, p, variables_at(image, p), front_at(image, q, p))
-        }
-        Action::Respond(p, q) => {
-            plans::respond_plan(q, variables_at(image, p), pending_at(image, p, q))
-        }
-        Action::Crash(p) => Ok(plans::crash_plan(variables_at(image, p))),
-    }
+    let c = scope_of(o);
+    plan_from(
+        size(image),
+        o,
+        variables_at(image, c.actor),
+        trust_at(image, c.actor),
+        front_at(image, c.partner, c.actor),
+        pending_at(image, c.actor, c.partner),
+    )
 }
 
 // What a step counts if it is done: asked before it is. A step whose plan is refused is not done.
-#[tactic(auto, using(crate::proofs::Counting::cut_refused, crate::proofs::Counting::planned_cut, effects::proofs::Laws::taken_variables), unfolding(step::specs::Counts::plan_tally))]
+#[tactic(auto, using(plan::proofs::Cuts::cut_refused, plan::proofs::Cuts::planned_cut, step::proofs::TakenOff::taken_variables), unfolding(events::specs::Counts::plan_tally))]
 fn counts_if_done(image: &[u8], o: Step) -> Result<Tally, Refusal>
     ensures { Counts (system_in image.now) o result }
 {

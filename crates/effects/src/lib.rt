@@ -1,17 +1,18 @@
-// What a step does to the image, part by part: messages go out, a process stops, others are doubted.
+// What a step asks of the image and does to it, part by part: who may act, messages go out, a process stops, others are doubted.
 #![tactic(auto)]
 
 ghost use Rattle.std.specs.Prelude.{◌≡◌};
 ghost use Rattle.std.specs.Iterator.{YieldsFirstBy, item_count};
 ghost use Rattle.system.specs.System.{variables_at, channel_at, with_trust, trusting, sent, broadcasted, room_for};
-ghost use Rattle.step.specs.Step.{taken_off, departed, doubted, crashed_at, crashed_if};
+ghost use Rattle.step.specs.Step.{guarded, taken_off, departed, doubted, crashed_at, crashed_if};
 ghost use Rattle.image.specs.Image.{system_in};
 ghost use Rattle.effects.specs.Named.{members_of, takes, suspecting};
 
 use channel::Message;
-use image::{clear, length_at, push, put_trust, put_variables, trust_at, variables_at};
+use image::{clear, length_at, push, put_trust, put_variables, size, trust_at, variables_at};
 use plan::{Reach, Scope};
-use view::{ProcessId, has, least, switched};
+use system::refusal::Refusal;
+use view::{ProcessId, has, is_one_of, least, switched};
 
 // The processes that a view names, the least first.
 #[derive(Clone, Copy, Drop)]
@@ -40,6 +41,21 @@ impl Iterator for Members {
         let p = least(self.rest);
         self.rest &= self.rest - 1;
         Some(p)
+    }
+}
+
+// Refusals 2 and 3: process p acts, and the action names process q too.
+#[tactic(auto, unfolding(view::specs::Logic::pick))]
+pub fn guard(image: &[u8], p: ProcessId, q: ProcessId) -> Result<(), Refusal>
+    ensures { result ≡ guarded (system_in image.now) p q }
+{
+    let n = size(image);
+    if !(is_one_of(n, p) & is_one_of(n, q)) {
+        Err(Refusal::Stranger)
+    } else if variables_at(image, p).crashed {
+        Err(Refusal::Crashed)
+    } else {
+        Ok(())
     }
 }
 

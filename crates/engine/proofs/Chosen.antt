@@ -31,16 +31,16 @@ use Rattle.plan.specs.Plan.{Planned, assigning, sending, refusing, doubting, rep
 use Rattle.plan.specs.Choice.{reported_plan, report_fits, received_plan, responded_plan}
 use Rattle.plan.specs.Cut.{only_whole}
 use Rattle.plan.proofs.Choices.{propout_below}
-use Rattle.step.specs.Scope.{scope_of, facing, taking}
-use Rattle.step.specs.Step.{plan_of, taken_off, crashed_at}
+use Rattle.plan.specs.Scope.{scope_of, facing, taking}
+use Rattle.step.specs.Step.{plan_of, guarded, taken_off, crashed_at}
 use Rattle.image.specs.Image.{system_in}
 use Rattle.alternatives.specs.Gives.{Gives, carried}
 use Rattle.alternatives.proofs.Carrying.{refusing_gives, not_stopped, stop_done}
 use Rattle.engine.specs.Engine.{Attempts}
-use Rattle.engine.proofs.Given.{guarded, passes}
+use Rattle.engine.proofs.Given.{passes}
 
 -- a plan that is a refusal
-module _ (b : List ℕ) (o : Step) (u : Unit {0}) (guard : Ok u ≡ guarded (system_in b) (scope_of o.action)) where
+module _ (b : List ℕ) (o : Step) (u : Unit {0}) (guard : Ok u ≡ guarded (system_in b) (scope_of o.action).actor (scope_of o.action).partner) where
   refuses : (v : Variables) (x : Result (Unit {0}) Refusal) (r : Refusal) → IsErrAnd x (λ y. y ≡ r) → refusing (number r) v ≡ plan_of (system_in b) o.action
       → Attempts o b (answer_number x) b
   refuses v x r passed plan =
@@ -51,11 +51,11 @@ module _ (b : List ℕ) (p : ProcessId) (view : ℕ) (cut : Cut) where
   abbrev report : Step
   report = record { action = Report p view; cut = cut }
 
-  module _ (u : Unit {0}) (guard : Ok u ≡ guarded (system_in b) (facing p p)) (n : ℕ) (x : Variables) (trust : ℕ) (y : Result ReportChoice Refusal)
+  module _ (u : Unit {0}) (guard : Ok u ≡ guarded (system_in b) p p) (n : ℕ) (x : Variables) (trust : ℕ) (y : Result ReportChoice Refusal)
       (size : n ≡ (system_in b).n) (variables : x ≡ variables_at (system_in b) p.0) (may : trust ≡ trust_at (system_in b) p.0)
       (chosen : reported_plan n view x y ≡ report_plan n p.0 view x trust) where
     planned : reported_plan n view x y ≡ plan_of (system_in b) (Report p view)
-    unfolding plan_of
+    unfolding plan_of scope_of
     planned = chosen ∙ rw (size, variables, may)
 
     pub report_refused : (z : Result (Unit {0}) Refusal) (r : Refusal) → IsErrAnd z (λ w. w ≡ r) → y ≡ Err r → Attempts report b (answer_number z) b
@@ -78,11 +78,11 @@ module _ (b : List ℕ) (q p : ProcessId) (cut : Cut) where
   abbrev take : Step
   take = record { action = Receive q p; cut = cut }
 
-  module _ (u : Unit {0}) (guard : Ok u ≡ guarded (system_in b) (taking q p)) (x : Variables) (f : Option Message) (y : Result ReceiveChoice Refusal)
+  module _ (u : Unit {0}) (guard : Ok u ≡ guarded (system_in b) p q) (x : Variables) (f : Option Message) (y : Result ReceiveChoice Refusal)
       (variables : x ≡ variables_at (system_in b) p.0) (oldest : f ≡ front (channel_at (system_in b) q.0 p.0))
       (chosen : received_plan q x y ≡ receive_plan q p.0 x f) where
     received_as : received_plan q x y ≡ plan_of (system_in b) (Receive q p)
-    unfolding plan_of
+    unfolding plan_of scope_of
     received_as = chosen ∙ rw (variables, oldest)
 
     pub receive_refused : (z : Result (Unit {0}) Refusal) (r : Refusal) → IsErrAnd z (λ w. w ≡ r) → y ≡ Err r → Attempts take b (answer_number z) b
@@ -97,11 +97,11 @@ module _ (b : List ℕ) (p q : ProcessId) (cut : Cut) where
   abbrev answer : Step
   answer = record { action = Respond p q; cut = cut }
 
-  module _ (u : Unit {0}) (guard : Ok u ≡ guarded (system_in b) (facing p q)) (x : Variables) (f : Pending) (y : Result Reply Refusal)
+  module _ (u : Unit {0}) (guard : Ok u ≡ guarded (system_in b) p q) (x : Variables) (f : Pending) (y : Result Reply Refusal)
       (variables : x ≡ variables_at (system_in b) p.0) (recorded : f ≡ pending_at (process_at (system_in b) p.0) q.0)
       (chosen : (w : ProcessId) → responded_plan w x y ≡ respond_plan w x f) where
     responded_as : responded_plan q x y ≡ plan_of (system_in b) (Respond p q)
-    unfolding plan_of
+    unfolding plan_of scope_of
     responded_as = chosen q ∙ rw (variables, recorded)
 
     pub respond_refused : (z : Result (Unit {0}) Refusal) (r : Refusal) → IsErrAnd z (λ w. w ≡ r) → y ≡ Err r → Attempts answer b (answer_number z) b
@@ -112,7 +112,7 @@ module _ (b : List ℕ) (p q : ProcessId) (cut : Cut) where
     unfolding scope_of
     responded a k d gives is = passes b answer u guard a k d gives (is ∙ responded_as)
 
-module _ (b : List ℕ) (p : ProcessId) (cut : Cut) (u : Unit {0}) (guard : Ok u ≡ guarded (system_in b) (facing p p)) where
+module _ (b : List ℕ) (p : ProcessId) (cut : Cut) (u : Unit {0}) (guard : Ok u ≡ guarded (system_in b) p p) where
   abbrev stop : Step
   stop = record { action = Crash p; cut = cut }
 

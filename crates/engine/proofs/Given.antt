@@ -1,29 +1,25 @@
 -- What a step on bytes gives, by the code's tests; and that bytes that hold a sound system hold one again.
 use Prim.Native.Nat.{ℕ}
 use mathlib.Core.Path.{◌≡◌, refl, sym, ◌∙◌, ap, subst}
-use mathlib.Core.Bool.{Bool, true, false, ◌&&◌}
+use mathlib.Core.Bool.{Bool, true, false}
 use mathlib.Core.List.{List}
 use lib.Dec.{eqb}
 use lib.ListN.{length}
 use Rattle.std.specs.Prelude.{Result, Ok, Err}
 use Rattle.std.specs.Result.{IsErrAnd}
 use Rattle.std.proofs.lemmas.Result.{err_from_is_err_and}
-use Rattle.view.specs.Logic.{pick, is_one_of}
+use Rattle.view.specs.Logic.{pick}
 use Rattle.view.proofs.Laws.{true_is_not_false}
 use Rattle.system.specs.declared.System.{System}
 use Rattle.system.specs.declared.refusal.Refusal.{Refusal}
-use Rattle.system.specs.declared.refusal.Refusal.TheVariants.{Stranger, Crashed}
 use Rattle.system.specs.Refusal.{number, answer_number}
-use Rattle.system.specs.Outcome.{Outcome, refused}
-use Rattle.system.specs.System.{variables_at}
-use Rattle.sound.specs.Sound.{sound_system}
+use Rattle.system.specs.Outcome.{Outcome}
+use Rattle.sound.specs.Sound.{sound_processes, sound_system}
 use Rattle.plan.specs.declared.Action.{Action}
-use Rattle.plan.specs.declared.Scope.{Scope}
 use Rattle.plan.specs.declared.Step.{Step}
 use Rattle.plan.specs.Plan.{Planned}
-use Rattle.plan.specs.Cut.{cut_by}
-use Rattle.step.specs.Scope.{scope_of}
-use Rattle.step.specs.Step.{plan_of, taken_off, carried_out, permitted, attempted}
+use Rattle.plan.specs.Scope.{scope_of}
+use Rattle.step.specs.Step.{plan_of, guarded, permitted, attempted}
 use Rattle.step.proofs.Soundness.{Valid}
 use Rattle.step.proofs.Inversion.{sound_stepped}
 use Rattle.step.proofs.SoundSteps.{step_sound}
@@ -34,7 +30,7 @@ use Rattle.engine.specs.Engine.{Attempts}
 
 -- ---- a sound system that bytes hold is valid
 pub no_system_lem : sound_system no_system ≡ false
-unfolding sound_system no_system
+unfolding sound_system sound_processes no_system
 no_system_lem = refl
 
 abbrev Arrays : System → Type 0
@@ -79,43 +75,20 @@ pub of_action : (o : Step) (a : Action) (b : List ℕ) (k : ℕ) (c : List ℕ) 
 of_action o a b k c e done = subst (λ (x : Action). Attempts (record { action = x; cut = o.cut }) b k c) (sym e) done
 
 -- ---- the code's tests, one after the other
--- refusals 2 and 3
-abbrev pub guarded : System → Scope → Result (Unit {0}) Refusal
-guarded s c = pick (is_one_of s.n c.actor.0 && is_one_of s.n c.partner.0) (pick (variables_at s c.actor.0).crashed (Err Crashed) (Ok (tt {0}))) (Err Stranger)
-
 module _ (b : List ℕ) (o : Step) where
-  pub turned_away : (x : Result (Unit {0}) Refusal) (r : Refusal) → IsErrAnd x (λ y. y ≡ r) → Err r ≡ guarded (system_in b) (scope_of o.action) → Attempts o b (answer_number x) b
-  unfolding attempted permitted pick
+  -- refusals 2 and 3
+  pub turned_away : (x : Result (Unit {0}) Refusal) (r : Refusal) → IsErrAnd x (λ y. y ≡ r)
+      → Err r ≡ guarded (system_in b) (scope_of o.action).actor (scope_of o.action).partner
+      → Attempts o b (answer_number x) b
+  unfolding attempted permitted
   turned_away x r passed told =
       let y = err_from_is_err_and x passed in
-      rw (y.1, y.2)
-      (attempts o b (number r) b (record { outcome = go (is_one_of (system_in b).n (scope_of o.action).actor.0 && is_one_of (system_in b).n (scope_of o.action).partner.0) (variables_at (system_in b) (scope_of o.action).actor.0).crashed told; kept = λ h. refl }))
-    where
-      go : (named crashed : Bool) → Err r ≡ pick named (pick crashed (Err Crashed) (Ok (tt {0}))) (Err Stranger)
-          → refused (number r) (system_in b)
-          ≡ pick named (pick crashed (refused 3 (system_in b)) (carried_out (system_in b) (taken_off (system_in b) (scope_of o.action)) (scope_of o.action).actor.0 (cut_by o.cut (plan_of (system_in b) o.action)))) (refused 2 (system_in b))
-      go true true e = cc
-      go true false e = cc
-      go false crashed e = cc
+      rw (y.1, y.2) (attempts o b (number r) b (record { outcome = rw (← told) refl; kept = λ h. refl }))
 
   -- otherwise the plan is carried out
-  pub passes : (x : Unit {0}) → Ok x ≡ guarded (system_in b) (scope_of o.action) → (a : Planned) (k : ℕ) (d : List ℕ)
+  pub passes : (x : Unit {0}) → Ok x ≡ guarded (system_in b) (scope_of o.action).actor (scope_of o.action).partner → (a : Planned) (k : ℕ) (d : List ℕ)
       → Gives (carried (system_in b) (scope_of o.action) o.cut a) b k d
       → a ≡ plan_of (system_in b) o.action
       → Attempts o b k d
-  unfolding attempted permitted pick
-  passes x none a k d gives plan =
-      attempts o b k d
-      (record {
-        outcome =
-            gives.outcome
-            ∙ rw (← plan) (go (is_one_of (system_in b).n (scope_of o.action).actor.0 && is_one_of (system_in b).n (scope_of o.action).partner.0) (variables_at (system_in b) (scope_of o.action).actor.0).crashed none);
-        kept = gives.kept;
-      })
-    where
-      go : (named crashed : Bool) → Ok x ≡ pick named (pick crashed (Err Crashed) (Ok (tt {0}))) (Err Stranger)
-          → carried (system_in b) (scope_of o.action) o.cut a
-          ≡ pick named (pick crashed (refused 3 (system_in b)) (carried (system_in b) (scope_of o.action) o.cut a)) (refused 2 (system_in b))
-      go true true e = cc
-      go true false e = refl
-      go false crashed e = cc
+  unfolding attempted permitted
+  passes x none a k d gives plan = attempts o b k d (record { outcome = gives.outcome ∙ rw (← plan, ← none) refl; kept = gives.kept })

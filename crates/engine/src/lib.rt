@@ -1,11 +1,7 @@
 // The one place where a step is done: on the image that the caller lends.
 #![tactic(auto)]
 
-ghost use Rattle.std.specs.Prelude.{◌≡◌, ◌&&◌, Ok, Err};
-ghost use Rattle.view.specs.Logic.{pick, is_one_of};
-ghost use Rattle.system.specs.declared.refusal.Refusal.TheVariants.{Stranger, Crashed};
 ghost use Rattle.system.specs.Refusal.{answer_number};
-ghost use Rattle.system.specs.System.{variables_at};
 ghost use Rattle.plan.specs.declared.Action.{Action};
 ghost use Rattle.step.specs.Step.{stepped};
 ghost use Rattle.image.specs.Image.{system_in};
@@ -17,29 +13,14 @@ use alternatives::{
     skip_message,
 };
 use channel::Message;
-use effects::crash;
+use effects::{crash, guard};
 use image::{front_at, pending_at, size, trust_at, variables_at};
 use plan::{
     Action, Cut, ReceiveChoice, Reply, ReportChoice, Step, after, receive_choice, report_choice,
     reproposing, require_whole, respond_choice, with_acks,
 };
 use system::refusal::Refusal;
-use view::{ProcessId, is_one_of};
-
-// Refusals 2 and 3: process p acts, and the action names process q too.
-#[tactic(auto, unfolding(view::specs::Logic::pick))]
-fn guard(image: &[u8], p: ProcessId, q: ProcessId) -> Result<(), Refusal>
-    ensures { result ≡ pick (is_one_of (system_in image.now).n p.0 && is_one_of (system_in image.now).n q.0) (pick (variables_at (system_in image.now) p.0).crashed (Err Crashed) (Ok tt)) (Err Stranger) }
-{
-    let n = size(image);
-    if !(is_one_of(n, p) & is_one_of(n, q)) {
-        Err(Refusal::Stranger)
-    } else if variables_at(image, p).crashed {
-        Err(Refusal::Crashed)
-    } else {
-        Ok(())
-    }
-}
+use view::ProcessId;
 
 // The four functions for a step take the system to be sound, as `attempt` does: internal, as that is.
 // Process p is told its view.

@@ -16,7 +16,7 @@ use Rattle.system.specs.declared.System.{System}
 use Rattle.plan.specs.declared.Action.{Action}
 use Rattle.plan.specs.declared.Action.TheVariants.{Report, Receive, Respond, Crash}
 use Rattle.plan.specs.Plan.{report_plan}
-use Rattle.step.specs.Scope.{scope_of}
+use Rattle.plan.specs.Scope.{scope_of}
 use Rattle.plan.specs.Cut.{whole, cut_by}
 use Rattle.step.specs.Step.{plan_of, carried_out, permitted, attempted, stepped}
 use Rattle.orders.specs.Orders.{process, with_report, with_link_moves_at, link_moves, with_take, with_takes_at, with_answer, with_answers_at, process_moves}
@@ -36,7 +36,7 @@ not_refused s o = grind arith
 
 -- an allowed view
 pub view_allowed : (s : System) (p : ProcessId) (v : ℕ) → (plan_of s (Report p v)).refusal ≡ 0 → (within s.n v ≡ true) × (has v p.0 ≡ true)
-unfolding plan_of report_plan pick
+unfolding plan_of scope_of report_plan pick
 view_allowed s p v = grind arith
 
 -- ---- every number that names a view of 1 or 2 processes is one of those tried

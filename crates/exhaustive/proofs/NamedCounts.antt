@@ -6,10 +6,10 @@ use Rattle.channel.specs.Channel.{empty_channel, waiting, pushed, popped}
 use Rattle.system.specs.Process.{entry_at, with_entry, as_crashed, pending_at, with_variables}
 use Rattle.system.specs.System.{no_process, process_at, with_process, channel_number, channel_at, with_channel, trust_at, with_trust, trusting, sent, sent_if_named, broadcasted, takes_if_named, room_for, entry_in}
 use Rattle.system.specs.Fresh.{fresh_variables, fresh_process, fresh_system, fresh_of}
-use Rattle.sound.specs.Sound.{every, sound_proposal, sound_message, sound_pending, sound_channel, sound_history, sound_variables, sound_process, sound_channel_at, sound_at, sound_system}
+use Rattle.sound.specs.Sound.{every, sound_proposal, sound_message, sound_pending, sound_channel, sound_history, sound_variables, sound_process, sound_process_at, sound_channel_at, sound_channels_from, sound_processes, sound_channels, sound_system}
 use Rattle.plan.specs.Plan.{changed, new_view_plan, report_plan, committing_plan, message_plan, receive_plan, respond_plan}
-use Rattle.step.specs.Scope.{scope_of}
-use Rattle.plan.specs.Cut.{cut_short, cut_by}
+use Rattle.plan.specs.Scope.{scope_of}
+use Rattle.plan.specs.Cut.{reach_of, cut_by}
 use Rattle.step.specs.Step.{plan_of, taken_off, emptied_from, crashed_at, crashed_if, departed, suspected_if_named, doubted, changed_at, effected, carried_out, permitted, attempted, stepped}
 use Rattle.orders.specs.Orders.{with_report, with_link_moves_at, link_moves, with_take, with_takes_at, with_answer, with_answers_at, process_moves, begun_by, by_moves, turned, link_turn, old_at, all_old_at, goes_beyond, entered_among, run_counts_of, walked}
 use Rattle.exhaustive.specs.NamedCounts.{NamedCounts}
@@ -19,8 +19,8 @@ unfolding pick all_up_to each_up_to at put has within with minus switched everyo
     empty_channel waiting pushed popped entry_at with_entry as_crashed pending_at with_variables
     no_process process_at with_process channel_number channel_at with_channel trust_at with_trust trusting sent sent_if_named broadcasted takes_if_named room_for entry_in
     fresh_variables fresh_process fresh_system fresh_of
-    every sound_proposal sound_message sound_pending sound_channel sound_history sound_variables sound_process sound_channel_at sound_at sound_system
-    changed new_view_plan report_plan committing_plan message_plan receive_plan respond_plan scope_of cut_short cut_by
+    every sound_proposal sound_message sound_pending sound_channel sound_history sound_variables sound_process sound_process_at sound_channel_at sound_channels_from sound_processes sound_channels sound_system
+    changed new_view_plan report_plan committing_plan message_plan receive_plan respond_plan scope_of reach_of cut_by
     plan_of taken_off emptied_from crashed_at crashed_if departed suspected_if_named doubted changed_at effected carried_out permitted attempted stepped
     with_report with_link_moves_at link_moves with_take with_takes_at with_answer with_answers_at process_moves begun_by by_moves turned link_turn old_at all_old_at goes_beyond entered_among run_counts_of walked
 named_counts = record { depth_1 = refl; depth_2 = refl; depth_8 = refl; link_of_2 = refl; processes_of_2 = refl }

@@ -12,7 +12,7 @@ use Rattle.view.specs.Logic.{pick, is_one_of}
 use Rattle.system.specs.declared.System.{System}
 use Rattle.system.specs.Fresh.{fresh_system, fresh_of}
 use Rattle.plan.specs.Cut.{whole}
-use Rattle.step.specs.Step.{ran}
+use Rattle.events.specs.Event.{ran}
 use Rattle.step.proofs.Outcomes.{size_kept}
 use Rattle.agreement.specs.Demand.{start}
 use Rattle.agreement.proofs.Theorem.{demand_3}

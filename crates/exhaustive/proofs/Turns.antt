@@ -14,7 +14,8 @@ use Rattle.view.proofs.Laws.{by_pick, and_left, and_right, and_intro}
 use Rattle.system.specs.declared.System.{System}
 use Rattle.plan.specs.declared.Action.{Action}
 use Rattle.plan.specs.Cut.{whole}
-use Rattle.step.specs.Step.{stepped, happened, ran}
+use Rattle.step.specs.Step.{stepped}
+use Rattle.events.specs.Event.{happened, ran}
 use Rattle.orders.specs.Orders.{Choice, pass, make, Run, begun_with, begun_by, by_moves, turned}
 use Rattle.exhaustive.specs.Exhaustive.{may_choose, chosen, events_of, AllDiffer}
 use Rattle.exhaustive.proofs.Lists.{all_pass, passes, none_is, told_apart, none_has_code, differ_append, differ_begun}

@@ -9,7 +9,8 @@ use Rattle.system.specs.Fresh.{fresh_system}
 use Rattle.plan.specs.declared.Action.{Action}
 use Rattle.plan.specs.declared.Action.TheVariants.{Report, Receive, Respond, Crash}
 use Rattle.plan.specs.Cut.{whole}
-use Rattle.step.specs.Step.{stepped, Event, does, ran}
+use Rattle.step.specs.Step.{stepped}
+use Rattle.events.specs.Event.{Event, does, ran}
 use Rattle.agreement.specs.Demand.{Demand, start}
 use Rattle.quiet.specs.Quiet.{Quiet}
 use Rattle.orders.specs.Orders.{Choice, pass, make, Run, link_turn, goes_beyond, run_counts_of, walked}

@@ -1,4 +1,4 @@
-// Reading an input whole, and the buffers that a sheet and its output need.
+// Reading an input whole, into a buffer.
 #![tactic(auto)]
 
 ghost use Rattle.std.specs.Prelude.{◌+◌, ◌<◌, ◌≤◌, ◌≡◌, drop, length, take, IfErr, IfOk, IfSome, OnErr, Some};
@@ -9,12 +9,6 @@ ghost use Rattle.input.specs.Received.{IsPrefixLen, ReadAt, Received, Zeros, rea
 use std::io::Read;
 use std::rt::Files;
 use std::{fmt, fs};
-
-// Room for a sheet and one byte more, by which a long sheet shows.
-pub const SHEET_ROOM: usize = 60_001;
-
-// Room for what is printed for any sheet.
-pub const OUTPUT_ROOM: usize = 603_400;
 
 // Room for what one read brings.
 pub const CHUNK_ROOM: usize = 65_536;

@@ -2,9 +2,9 @@
 // Loops, and not `all`, which stops at the first that fails: with it the test takes two fifths more steps.
 #![tactic(auto)]
 
-ghost use Rattle.std.specs.Prelude.{◌≡◌};
+ghost use Rattle.std.specs.Prelude.{◌&&◌, ◌≡◌};
 ghost use Rattle.system.specs.System.{process_at, variables_at, channel_at};
-ghost use Rattle.sound.specs.Sound.{sound_channel, sound_history, sound_process, sound_at, sound_system};
+ghost use Rattle.sound.specs.Sound.{sound_channel, sound_history, sound_process, sound_process_at, sound_channels_from, sound_processes, sound_system};
 ghost use Rattle.image.specs.Image.{system_in};
 
 use image::{entry_at, length_at, message_at, pending_at, size, variables_at};
@@ -57,7 +57,7 @@ fn sound_process(image: &[u8], n: u8, p: ProcessId) -> bool
 
 // Process q and each channel that it sends on.
 fn sound_sender(image: &[u8], q: ProcessId) -> bool
-    ensures { result ≡ sound_at (system_in image.now) q.0 }
+    ensures { result ≡ (sound_process_at (system_in image.now) q.0 && sound_channels_from (system_in image.now) q.0) }
 {
     let n = size(image);
     let mut ok = sound_process(image, n, q);
@@ -67,8 +67,8 @@ fn sound_sender(image: &[u8], q: ProcessId) -> bool
     ok
 }
 
-// Document 01: "A table is sound when ..".
-#[tactic(auto, unfolding(sound::specs::Sound::sound_system))]
+// Document 01: "A table is sound when ..". The processes and the channels in one loop: in two it takes a twentieth more.
+#[tactic(auto, unfolding(sound::specs::Sound::sound_system, sound::specs::Sound::sound_processes))]
 pub fn sound(image: &[u8]) -> bool
     ensures { result ≡ sound_system (system_in image.now) }
 {

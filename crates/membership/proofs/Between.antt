@@ -13,9 +13,10 @@ use Rattle.codec.proofs.Lengths.{Lengths}
 use Rattle.codec.proofs.Back.{encode_call, decode_call}
 use Rattle.alternatives.specs.Gives.{Gives}
 use Rattle.alternatives.proofs.Carrying.{some_number}
+use Rattle.settling.specs.declared.Ending.TheVariants.{Held}
+use Rattle.settling.specs.Settle.{settled}
 use Rattle.settle.specs.declared.Settling.{Settling}
-use Rattle.settle.specs.declared.Ending.TheVariants.{Held}
-use Rattle.settle.specs.Settle.{settled, settled_as, Settles}
+use Rattle.settle.specs.Settles.{settled_as, Settles}
 
 -- bytes a become b by `encode` of s, and c by a call
 module _ (s : System) (a b c : List ℕ) (l : Lengths s) (long : length a ≡ image_width) (e : length b ≡ length a) (f : length c ≡ length b)

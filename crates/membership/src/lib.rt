@@ -6,7 +6,8 @@ ghost use Rattle.system.specs.Outcome.{outcome_of};
 ghost use Rattle.plan.specs.declared.Action.{Action};
 ghost use Rattle.plan.specs.Cut.{whole};
 ghost use Rattle.step.specs.Step.{stepped};
-ghost use Rattle.settle.specs.Settle.{settled, settled_of};
+ghost use Rattle.settling.specs.Settle.{settled, settling_budget};
+ghost use Rattle.settle.specs.Settles.{settled_of};
 
 use image::blank_image;
 use plan::{Action, Step};
@@ -56,7 +57,7 @@ pub fn crash(s: System, p: ProcessId) -> Result<System, Refused>
 
 // The settling run: takes and answers, until a whole round of them does nothing.
 pub fn settle(s: System) -> Result<SettledSystem, Refused>
-    ensures { settled_of result ≡ settled 7936 s }
+    ensures { settled_of result ≡ settled settling_budget s }
 {
     let mut image = blank_image();
     codec::encode(s, &mut image);

@@ -4,3 +4,5 @@ pub mod Fields
 pub mod Plan
 pub mod Choice
 pub mod Cut
+pub mod Scope
+pub mod ByValue

@@ -9,6 +9,8 @@ use Rattle.channel.specs.declared.Message.TheVariants.{Propose, Retry, Acc, Comm
 use Rattle.system.specs.declared.Variables.{Variables}
 use Rattle.system.specs.declared.Process.{Process}
 use Rattle.system.specs.Process.{Pending, proposal_of, index, with_entry}
+use Rattle.plan.specs.declared.Action.{Action}
+use Rattle.plan.specs.declared.Action.TheVariants.{Report, Receive, Respond, Crash}
 use Rattle.plan.specs.declared.Change.{Change}
 use Rattle.plan.specs.Fields.{with_view, with_next, with_acks, proposing, reproposing}
 
@@ -133,3 +135,11 @@ respond_plan q x (Some r) =
 -- a stop: nothing changes but that the process stops, and nothing is sent
 abbrev pub crash_plan : Variables → Planned
 crash_plan x = plan 0 (assigning x) true 0 no_message 0
+
+-- What the acting process plans for an action, where it is not cut: handed how many processes there are, its variables, whom it may trust
+-- again, the oldest message from the partner and what it has recorded from it
+abbrev pub plan_from : ℕ → Action → Variables → ℕ → Option Message → Pending → Planned
+plan_from n (Report p v) x trust front pending = report_plan n p.0 v x trust
+plan_from n (Receive q p) x trust front pending = receive_plan q p.0 x front
+plan_from n (Respond p q) x trust front pending = respond_plan q x pending
+plan_from n (Crash p) x trust front pending = crash_plan x

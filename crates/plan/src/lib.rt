@@ -11,6 +11,8 @@ ghost use Rattle.plan.specs.Plan.{new_view_plan, report_plan, committing_plan, m
 ghost use Rattle.plan.specs.Choice.{reported_plan, report_fits, received_plan, responded_plan};
 ghost use Rattle.plan.specs.Cut.{whole, cut_after, reach_of, only_whole};
 
+pub mod plans;
+
 use channel::Message;
 use system::refusal::Refusal;
 use system::{Proposal, Variables};
@@ -377,7 +379,7 @@ pub fn require_room(room: bool) -> Result<(), Refusal>
 }
 
 // A step that sends nothing wants no room, and any cut of it is too late: refusal 12.
-#[tactic(auto, unfolding(crate::specs::Cut::only_whole))]
+#[tactic(auto, using(crate::proofs::Cuts::never_cut), unfolding(crate::specs::Cut::only_whole, crate::specs::Cut::reach_of))]
 pub fn require_whole(cut: Cut) -> Result<(), Refusal>
     ensures { result ≡ only_whole cut }
 {

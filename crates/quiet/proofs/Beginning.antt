@@ -9,9 +9,9 @@ use Rattle.view.proofs.Laws.{one_of}
 use Rattle.view.proofs.Sets.{everyone-has}
 use Rattle.system.specs.declared.Process.{Process}
 use Rattle.system.specs.declared.System.{System}
-use Rattle.system.specs.System.{no_process, variables_at, entry_in}
+use Rattle.system.specs.System.{no_process, variables_at}
 use Rattle.system.specs.Fresh.{fresh_variables, fresh_process, fresh_system}
-use Rattle.step.proofs.Beginning.{each_fresh, fresh_process_lem, fresh_variables_lem, first_entry}
+use Rattle.step.proofs.Beginning.{each_fresh, fresh_variables_lem}
 use Rattle.agreement.specs.Accepted.{accepted}
 use Rattle.agreement.proofs.Beginning.{fresh_proposal}
 use Rattle.quiet.proofs.Views.{everyone_least}
@@ -27,11 +27,6 @@ module _ (n : ℕ) (size : is_one_of 8 n ≡ true) where
 
   fresh : (p : ℕ) → 1 ≤ p → p ≤ n → variables_at s p ≡ fresh_variables n
   fresh p low high = fresh_variables_lem n p low (omega (arith, one_of 8 n size))
-
-  -- the entry of each process at index 1
-  pub fresh_entry : (p : ℕ) → 1 ≤ p → p ≤ n → entry_in s p 1 ≡ everyone n
-  unfolding entry_in fresh_process
-  fresh_entry p low high = grind (arith, fresh_process_lem, first_entry)
 
   fresh_untouched : (p : ℕ) → 1 ≤ p → (least_of (variables_at s p).view).0 ≡ p → Untouched n (variables_at s p)
   unfolding fresh_process fresh_variables no_process least_of first_from has pick
@@ -55,5 +50,5 @@ module _ (n : ℕ) (size : is_one_of 8 n ≡ true) where
   fresh_pursuit : Pursuit (gone (fresh_system n)) (fresh_system n)
   fresh_pursuit = grind (arith, fresh_proposal)
 
-  pub fresh_orderly : Orderly (fresh_system n) (opening n)
+  pub fresh_orderly : Orderly (gone (fresh_system n)) (fresh_system n) (opening n)
   fresh_orderly = record { reached = fresh_opened n size; proposals = fresh_proposals n; pursuit = fresh_pursuit; standing = fresh_standing }

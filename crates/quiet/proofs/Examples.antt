@@ -10,14 +10,15 @@ use Rattle.system.specs.declared.System.{System}
 use Rattle.system.specs.Process.{entry_at, with_entry, as_crashed, pending_at, with_variables}
 use Rattle.system.specs.System.{no_process, process_at, with_process, channel_number, channel_at, with_channel, trust_at, with_trust, trusting, sent, sent_if_named, broadcasted, takes_if_named, room_for, entry_in}
 use Rattle.system.specs.Fresh.{fresh_variables, fresh_process, fresh_system, fresh_of}
-use Rattle.sound.specs.Sound.{every, sound_proposal, sound_message, sound_pending, sound_channel, sound_history, sound_variables, sound_process, sound_channel_at, sound_at, sound_system}
+use Rattle.sound.specs.Sound.{every, sound_proposal, sound_message, sound_pending, sound_channel, sound_history, sound_variables, sound_process, sound_process_at, sound_channel_at, sound_channels_from, sound_processes, sound_channels, sound_system}
 use Rattle.plan.specs.Plan.{changed, new_view_plan, report_plan, committing_plan, message_plan, receive_plan, respond_plan}
-use Rattle.step.specs.Scope.{scope_of}
+use Rattle.plan.specs.Scope.{scope_of}
 use Rattle.plan.specs.declared.Action.TheVariants.{Report}
-use Rattle.plan.specs.Cut.{whole, cut_short, cut_by}
-use Rattle.step.specs.Step.{plan_of, taken_off, emptied_from, crashed_at, crashed_if, departed, suspected_if_named, doubted, changed_at, effected, carried_out, permitted, attempted, stepped, happened, ran}
+use Rattle.plan.specs.Cut.{whole, reach_of, cut_by}
+use Rattle.step.specs.Step.{plan_of, taken_off, emptied_from, crashed_at, crashed_if, departed, suspected_if_named, doubted, changed_at, effected, carried_out, permitted, attempted, stepped}
 use Rattle.step.specs.Rest.{idle_from, matches, answerable, resting_from, resting_at, at_rest}
-use Rattle.settle.specs.Settle.{passing, tried, move_of, tried_with, tried_at, half_done, round_done, unless_idle, rounds_done, refused_at, all_refused_at, none_done, nothing_to_do, ending_of, ended_with, settled}
+use Rattle.events.specs.Event.{happened, ran}
+use Rattle.settling.specs.Settle.{passing, tried, move_of, tried_with, tried_at, half_done, round_done, unless_idle, rounds_done, refused_at, all_refused_at, none_done, nothing_to_do, ending_of, ended_with, settled, settling_budget}
 use Rattle.agreement.specs.Demand.{start}
 use Rattle.quiet.specs.Quiet.{last_up_to, last_non_empty, local_if_named, is_common, Final}
 use Rattle.quiet.specs.Examples.{none_waits_at, none_waits, last_view, Seen, seen, SettledSeen, settled_seen, example66, Example66, one_cut, OneCut, NoReport, unanswered, MessageWaits, Unanswered, apart_from1, OtherView, OtherProcess, stopped_before, Stopped, accepted2, back_again, trusted_by_hand, Needed}
@@ -30,8 +31,8 @@ unfolding pick all_up_to each_up_to at put has within with minus switched everyo
     empty_channel waiting pushed popped entry_at with_entry as_crashed pending_at with_variables
     no_process process_at with_process channel_number channel_at with_channel trust_at with_trust trusting sent sent_if_named broadcasted takes_if_named room_for
     fresh_variables fresh_process fresh_system fresh_of
-    every sound_proposal sound_message sound_pending sound_channel sound_history sound_variables sound_process sound_channel_at sound_at sound_system
-    changed new_view_plan report_plan committing_plan message_plan receive_plan respond_plan scope_of cut_short cut_by
+    every sound_proposal sound_message sound_pending sound_channel sound_history sound_variables sound_process sound_process_at sound_channel_at sound_channels_from sound_processes sound_channels sound_system
+    changed new_view_plan report_plan committing_plan message_plan receive_plan respond_plan scope_of reach_of cut_by
     plan_of taken_off emptied_from crashed_at crashed_if departed suspected_if_named doubted changed_at effected carried_out permitted attempted stepped happened ran
     idle_from matches answerable resting_from resting_at at_rest entry_in last_up_to last_non_empty local_if_named is_common
     passing tried move_of tried_with tried_at half_done round_done unless_idle rounds_done refused_at all_refused_at none_done nothing_to_do ending_of ended_with settled
@@ -96,9 +97,9 @@ pub needed : Needed
 needed = record { refused = hand_refused; sound = hand_sound; ends = hand_ends; refuted = not_final _ _ hand_ends refl }
 
 -- ---- the theorem, applied
-pub example_66_final : Final (settled 7936 (ran (start 4) example66)).system 15
+pub example_66_final : Final (settled settling_budget (ran (start 4) example66)).system 15
 unfolding settled_seen seen
-example_66_final = settled_is_agreed 7936 4 example66 15 (ap (λ (x : SettledSeen). x.ending) example_66) (ap (λ (x : SettledSeen). x.then.common) example_66)
+example_66_final = settled_is_agreed settling_budget 4 example66 15 (ap (λ (x : SettledSeen). x.ending) example_66) (ap (λ (x : SettledSeen). x.then.common) example_66)
 
 pub one_cut_final : Final (ran (start 3) one_cut) 6
 unfolding seen

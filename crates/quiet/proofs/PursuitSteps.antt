@@ -5,23 +5,23 @@ use mathlib.Core.Bool.{Bool, true, false}
 use mathlib.Core.List.{List}
 use mathlib.Core.Logic.{inl, inr}
 use native.Mathlib.Omega.{arith}
-use lib.ListN.{length}
 use Rattle.std.specs.Prelude.{None, Some, Any}
 use Rattle.view.specs.declared.ProcessId.{ProcessId}
 use Rattle.view.specs.declared.GroupIndex.{GroupIndex}
 use Rattle.view.specs.View.{has, subset, with, least_of}
-use Rattle.view.proofs.Laws.{by_number, by_test, at_put_same}
+use Rattle.view.proofs.Laws.{by_number, by_test}
 use Rattle.view.proofs.Sets.{has_none, not_empty, subset-has, with_new, with_old}
 use Rattle.channel.specs.declared.Message.{Message}
 use Rattle.channel.specs.declared.Message.TheVariants.{Propose}
 use Rattle.system.specs.declared.Variables.{Variables}
 use Rattle.system.specs.declared.System.{System}
-use Rattle.system.specs.Process.{entry_at, with_entry, pending_at, Pending, proposal_of}
-use Rattle.system.specs.System.{process_at, variables_at, entry_in}
+use Rattle.system.specs.Process.{pending_at, Pending, proposal_of}
+use Rattle.system.specs.System.{process_at, variables_at}
 use Rattle.plan.specs.declared.Change.{Change}
 use Rattle.plan.specs.declared.Action.{Action}
 use Rattle.plan.specs.declared.Action.TheVariants.{Report, Receive, Respond, Crash}
 use Rattle.step.proofs.Cases.{waiting_at, Known, Taken, afterwards, Effect, Marking, present, stale, Records, Transition, proposes, follows, records, reproposes, ignores, marks, commits, enters, accepts, declines, crashes}
+use Rattle.step.proofs.Effects.{entry_new}
 use Rattle.agreement.specs.Accepted.{Acceptance}
 use Rattle.agreement.proofs.Invariant.{Reached}
 use Rattle.agreement.proofs.Changes.{Since, at_actor}
@@ -69,11 +69,6 @@ module _ {s t : System} {left : ℕ → ℕ → List Message} {a : ℕ} {c : Cha
       → subset (variables_at t p).proposal (variables_at t p).acks ≡ false
   unfolding afterwards
   all_incomplete w own = grind arith
-
-  -- the entry of the change
-  entry_new : 1 ≤ c.index.0 → c.index.0 ≤ length (process_at s a).history.entries → entry_in t a c.index.0 ≡ c.entry
-  unfolding afterwards entry_in entry_at with_entry
-  entry_new low high = grind (arith, at_put_same)
 
 -- ---- the transitions
 module _ {gone then : ℕ → Bool} {s t : System} {acc : List Acceptance} (g : Staying gone then t) (r : Reached s acc) (o : Proposals s) (since : Since s t)
@@ -269,7 +264,7 @@ module _ {gone then : ℕ → Bool} {s t : System} {acc : List Acceptance} (g : 
       (λ e u from reply. absurd reply)
       (λ u y e.
       written
-      (rw (y, ← e.1, ← e.0) (entry_new k.effect (omega (arith, k.sound.low)) (omega (arith, k.sound.high, r.shape.entries p.0))))))
+      (rw (y, ← e.1, ← e.0) (entry_new k.effect (omega (arith, k.sound.low)) (omega (arith, k.sound.high))))))
   transition_pursuit (Respond p q) (accepts k) =
       after k.effect (w.incomplete p.0)
       (λ j. answering k.effect refl k.partner k.recorded refl j (all_steady k.effect refl refl refl j) (all_acks k.effect (λ u e. e) j))

@@ -104,8 +104,8 @@ unfolding matches
 matched at p None e recorded some = absurd e
 matched at p (Some r) e recorded some = eq-eqb r.view (at p).proposal (recorded.same e some)
 
-module _ {s : System} {acc : List Acceptance} (orderly : Orderly s acc) (sound : Sound s) (begun : Begun s acc) (resting : Resting s) {v : ℕ} (common : Common s v)
-    (leader : has v (least_of v).0 ≡ true) where
+module _ {gone : ℕ → Bool} {s : System} {acc : List Acceptance} (orderly : Orderly gone s acc) (sound : Sound s) (begun : Begun s acc) (resting : Resting s) {v : ℕ}
+    (common : Common s v) (stays : (k : ℕ) → has v k ≡ true → gone k ≡ false) (leader : has v (least_of v).0 ≡ true) where
   -- its least process, and PropOut of that one
   abbrev p : ℕ
   p = (least_of v).0
@@ -125,7 +125,7 @@ module _ {s : System} {acc : List Acceptance} (orderly : Orderly s acc) (sound :
   -- it has proposed nothing: it is the opening view, at index 1
   module _ (none : (variables_at s (least_of v).0).proposal ≡ 0) where
     untouched : Untouched s.n (variables_at s (least_of v).0)
-    untouched = orderly.standing.untouched p (known p leader).low (common.live p leader) none least
+    untouched = orderly.standing.untouched p (known p leader).low (stays p leader) none least
 
     all : v ≡ everyone s.n
     all = sym (common.view p leader) ∙ untouched.all
@@ -151,12 +151,12 @@ module _ {s : System} {acc : List Acceptance} (orderly : Orderly s acc) (sound :
     only_marks u h (replied e) = absurd (none_of_empty _ (subst (Any _) (resting.empty u p (known u h) (known p leader)) e))
     only_marks u h (marked e) = e
 
-    not_underway : ((u : ℕ) → has (variables_at s (least_of v).0).proposal u ≡ true → (variables_at s u).crashed ≡ false
+    not_underway : ((u : ℕ) → has (variables_at s (least_of v).0).proposal u ≡ true → gone u ≡ false
         → Underway s (variables_at s (least_of v).0).propout.0 (least_of v).0 u)
         → ⊥
     not_underway under =
         true_is_not_false
-        (sym (part_by_processes v (variables_at s p).acks common.byte (λ u h. only_marks u h (under u (rw this_view h) (common.live u h))))
+        (sym (part_by_processes v (variables_at s p).acks common.byte (λ u h. only_marks u h (under u (rw this_view h) (stays u h))))
         ∙ subst (λ (w : ℕ). subset w (variables_at s p).acks ≡ false) this_view (orderly.pursuit.incomplete p proposed))
 
     only_written : (u : ℕ) → has v u ≡ true
@@ -194,15 +194,15 @@ module _ {s : System} {acc : List Acceptance} (orderly : Orderly s acc) (sound :
       absurd (clash (entry_in s u j) entered (has (entry_in s u j) p) refl))
     where
       next : (variables_at s p).next.0 ≡ o + 1
-      next = orderly.standing.next p (common.live p leader) least (accepted_view p p leader leader)
+      next = orderly.standing.next p (stays p leader) least (accepted_view p p leader leader)
 
       clash : (w : ℕ) → Entered acc u j w → (t : Bool) → has w p ≡ t → ⊥
       clash w entered true e = omega (arith, past, next, orderly.reached.passed p w j (entered.agreed p e))
       clash w entered false e =
           let followed : Followed _ s acc p u =
           record {
-            leader_stays = common.live p leader;
-            stays = common.live u h;
+            leader_stays = stays p leader;
+            stays = stays u h;
             apart = λ i. true_is_not_false (sym entered.own ∙ subst (λ (x : ℕ). has w x ≡ false) (sym i) e);
             least = least;
             accepts = accepted_view u p leader h;
@@ -215,13 +215,14 @@ module _ {s : System} {acc : List Acceptance} (orderly : Orderly s acc) (sound :
   last_there u h =
       last_is s u o 32 own.propout_low own.propout_high (λ z. not_empty v u h (sym (written_there u h) ∙ z)) (none_past u h)
 
-pub resting_final : {s : System} {acc : List Acceptance} → Orderly s acc → Sound s → Begun s acc → (v : ℕ) → at_rest s ≡ true → is_common s v ≡ true → Final s v
-resting_final {s} orderly sound begun v rest common =
+pub resting_final : {gone : ℕ → Bool} {s : System} {acc : List Acceptance} → Orderly gone s acc → Sound s → Begun s acc → (v : ℕ) → at_rest s ≡ true → Common s v
+    → ((k : ℕ) → has v k ≡ true → gone k ≡ false)
+    → Final s v
+resting_final {s = s} orderly sound begun v rest f stays =
     let r = rest_facts s rest in
-    let f = common_facts s v common in
-    let last : (p : ℕ) → has v p ≡ true → last_non_empty s p ≡ (variables_at s (least_of v).0).propout.0 = λ p h. last_there orderly sound begun r f (least_named v p h) p h in
+    let last : (p : ℕ) → has v p ≡ true → last_non_empty s p ≡ (variables_at s (least_of v).0).propout.0 = λ p h. last_there orderly sound begun r f stays (least_named v p h) p h in
     record {
       same = λ p q hp hq. last p hp ∙ sym (last q hq);
-      holds = λ p h. ap (entry_in s p) (last p h) ∙ written_there orderly sound begun r f (least_named v p h) p h;
+      holds = λ p h. ap (entry_in s p) (last p h) ∙ written_there orderly sound begun r f stays (least_named v p h) p h;
       proposed = last;
     }

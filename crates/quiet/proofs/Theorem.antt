@@ -1,46 +1,48 @@
--- When it is quiet, it is agreed: for a fresh system of any size and for every list of steps, whole or cut, refused ones included.
+-- When it is quiet, it is agreed: for a fresh system of any size and for every list of events, refused ones included.
 use Prim.Native.Nat.{ℕ}
 use mathlib.Core.Path.{◌≡◌, sym, ◌∙◌, ap}
 use mathlib.Core.Bool.{true}
-use mathlib.Core.List.{List, ◌++◌}
+use mathlib.Core.List.{List}
 use native.Mathlib.Omega.{arith}
 use Rattle.view.specs.Logic.{is_one_of}
 use Rattle.view.specs.View.{has, everyone}
 use Rattle.view.specs.Logic.{pick}
 use Rattle.view.proofs.Sets.{has_number, has_inside}
 use Rattle.system.specs.Fresh.{fresh_system, fresh_of}
-use Rattle.step.specs.Step.{Event, ran}
 use Rattle.step.specs.Rest.{at_rest}
 use Rattle.step.proofs.Soundness.{sound_facts}
-use Rattle.step.proofs.Beginning.{fresh_valid, run_sound}
-use Rattle.agreement.specs.Accepted.{accepted_in}
-use Rattle.agreement.proofs.Acceptances.{still}
-use Rattle.agreement.proofs.Steps.{run_after}
+use Rattle.step.proofs.Beginning.{fresh_shape}
+use Rattle.events.specs.Event.{Event, ran, moves_in, grown}
+use Rattle.events.proofs.Runs.{run_size, run_sound}
+use Rattle.agreement.specs.Accepted.{accepted_then}
+use Rattle.agreement.proofs.Steps.{run_after, still_in}
 use Rattle.quiet.specs.Quiet.{is_common, Final, Quiet}
 use Rattle.quiet.proofs.Opening.{opening, opened-accepted, fresh_opened}
-use Rattle.quiet.proofs.Orderly.{run_orderly, run_size}
-use Rattle.quiet.proofs.Beginning.{fresh_entry, fresh_orderly}
+use Rattle.quiet.proofs.Orderly.{run_orderly}
+use Rattle.step.proofs.Beginning.{first_entered}
+use Rattle.quiet.proofs.Beginning.{fresh_orderly}
 use Rattle.quiet.proofs.Resting.{Begun, common_facts, resting_final}
 
 -- ---- one to eight processes
 module _ (n : ℕ) (size : is_one_of 8 n ≡ true) (es : List Event) where
-  run_begun : Begun (ran (fresh_system n) es) (opening n ++ accepted_in (fresh_system n) es)
+  run_begun : Begun (ran (fresh_system n) es) (grown accepted_then (opening n) (fresh_system n) (moves_in (fresh_system n) es))
   unfolding fresh_system
   run_begun =
       let same : (ran (fresh_system n) es).n ≡ n = run_size (fresh_system n) es in
       record {
         entry = λ u k.
             (run_after (fresh_system n) (opening n) es (fresh_opened n size)).since.first u 1 (omega arith)
-            ∙ fresh_entry n size u k.low (omega (arith, k.high))
+            ∙ first_entered n u k.low k.eight
             ∙ ap everyone (sym same);
         opened = λ u k.
             rw same
-            (still (opening n) (accepted_in (fresh_system n) es) u (everyone n) 1 (opened-accepted n (everyone n) u k.low (omega (arith, k.high))));
+            (still_in (fresh_system n) (opening n) es (fresh_shape n) u (everyone n) 1 (opened-accepted n (everyone n) u k.low (omega (arith, k.high))));
       }
 
   run_final : (v : ℕ) → at_rest (ran (fresh_system n) es) ≡ true → is_common (ran (fresh_system n) es) v ≡ true → Final (ran (fresh_system n) es) v
-  run_final =
-      resting_final (run_orderly (fresh_system n) (opening n) es (fresh_valid n size) (fresh_orderly n size)) (sound_facts _ (run_sound n size es)) run_begun
+  run_final v rest common =
+      let f = common_facts (ran (fresh_system n) es) v common in
+      resting_final (run_orderly (fresh_system n) (opening n) es (fresh_shape n) (fresh_orderly n size)) (sound_facts _ (run_sound n size es)) run_begun v rest f f.live
 
 -- ---- no process: no view names one
 nobody_final : (es : List Event) (v : ℕ) → is_common (ran (fresh_system 0) es) v ≡ true → Final (ran (fresh_system 0) es) v

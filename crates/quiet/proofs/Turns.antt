@@ -12,12 +12,12 @@ use Rattle.system.specs.System.{process_at, variables_at, may_trust}
 use Rattle.plan.specs.declared.Change.{Change}
 use Rattle.plan.specs.declared.Action.{Action}
 use Rattle.plan.specs.declared.Action.TheVariants.{Report, Receive, Respond, Crash}
-use Rattle.step.specs.Scope.{scope_of}
+use Rattle.plan.specs.Scope.{scope_of}
 use Rattle.step.proofs.Cases.{afterwards, Effect, SameTrust, Doubts, Transition, proposes, follows, records, reproposes, ignores, marks, commits, enters, accepts, declines, crashes}
-use Rattle.agreement.specs.Accepted.{Acceptance}
+use Rattle.agreement.specs.Accepted.{Acceptance, accepted_by}
 use Rattle.agreement.proofs.Invariant.{Recorded, Reached}
 use Rattle.agreement.proofs.Changes.{at_actor}
-use Rattle.agreement.proofs.Steps.{acceptances, accepts_this, accepts_none}
+use Rattle.agreement.proofs.Steps.{accepts_this, accepts_none}
 use Rattle.quiet.proofs.Proposals.{LedRecord, Proposals}
 
 -- ---- a turn
@@ -92,7 +92,7 @@ module _ {s t : System} {acc : List Acceptance} (r : Reached s acc) (o : Proposa
   unfolding afterwards
   idle {p = p} f view propout proposal next trust = grind (arith, append-nil)
 
-  pub transition_taking : (a : Action) → Transition s t a → Taking s t acc (acc ++ acceptances s a) (scope_of a).actor.0
+  pub transition_taking : (a : Action) → Transition s t a → Taking s t acc (acc ++ accepted_by s a) (scope_of a).actor.0
   unfolding afterwards scope_of
   transition_taking (Report p v) (proposes k) = grind (arith, not_empty, append-nil)
   transition_taking (Report p v) (follows k) = grind (arith, append-nil)

@@ -1,8 +1,8 @@
 -- The same of every system that a settling run (S-4) says is at rest, after any list of events.
 use Rattle.std.specs.Prelude.{ℕ, ◌≡◌, true, List}
-use Rattle.step.specs.Step.{Event, ran}
-use Rattle.settle.specs.declared.Ending.TheVariants.{Rest}
-use Rattle.settle.specs.Settle.{settled}
+use Rattle.events.specs.Event.{Event, ran}
+use Rattle.settling.specs.declared.Ending.TheVariants.{Rest}
+use Rattle.settling.specs.Settle.{settled}
 use Rattle.agreement.specs.Demand.{start}
 use Rattle.quiet.specs.Quiet.{is_common, Final}
 

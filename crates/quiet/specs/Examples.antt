@@ -6,31 +6,20 @@ use Rattle.view.specs.Logic.{all_up_to}
 use Rattle.system.specs.declared.System.{System}
 use Rattle.system.specs.System.{with_trust, trusting, entry_in}
 use Rattle.sound.specs.Sound.{sound_system}
-use Rattle.plan.specs.declared.Action.TheVariants.{Report, Receive, Respond, Crash}
-use Rattle.plan.specs.Cut.{whole, cut_after}
-use Rattle.step.specs.Step.{Event, does, stepped, ran}
+use Rattle.plan.specs.declared.Action.TheVariants.{Report}
+use Rattle.plan.specs.Cut.{whole}
+use Rattle.step.specs.Step.{stepped}
 use Rattle.step.specs.Rest.{idle_from, at_rest}
-use Rattle.settle.specs.declared.Ending.{Ending}
-use Rattle.settle.specs.declared.Ending.TheVariants.{Rest}
-use Rattle.settle.specs.Settle.{Settled, settled}
+use Rattle.events.specs.Event.{Event, ran}
+use Rattle.events.specs.Tallied.{r, t, a, x, report_cut}
+use Rattle.settling.specs.declared.Ending.{Ending}
+use Rattle.settling.specs.declared.Ending.TheVariants.{Rest}
+use Rattle.settling.specs.Settle.{Settled, settled, settling_budget}
 use Rattle.agreement.specs.Demand.{start}
 use Rattle.quiet.specs.Quiet.{last_non_empty, is_common, Final}
 
--- ---- the lines of a sheet
 abbrev process : ℕ → ProcessId
 process k = record { 0 = k }
-
--- process p reports view v
-abbrev r : ℕ → ℕ → Event
-r p v = does (whole (Report (process p) v))
-
--- a take, from q at p
-abbrev t : ℕ → ℕ → Event
-t q p = does (whole (Receive (process q) (process p)))
-
--- p answers q
-abbrev a : ℕ → ℕ → Event
-a p q = does (whole (Respond (process p) (process q)))
 
 -- ---- what is seen of a system and a view, and of some processes
 unfoldable pub none_waits_at : System → ℕ → Bool
@@ -74,7 +63,7 @@ settled_seen o v ks = record { ending = o.ending; steps = o.steps; then = seen o
 
 abbrev pub Example66 : Type 0
 Example66 =
-    settled_seen (settled 7936 (ran (start 4) example66)) 15 (1 ∷ 2 ∷ 3 ∷ 4 ∷ [])
+    settled_seen (settled settling_budget (ran (start 4) example66)) 15 (1 ∷ 2 ∷ 3 ∷ 4 ∷ [])
     ≡ record {
       ending = Rest;
       steps = 1;
@@ -84,7 +73,7 @@ Example66 =
 -- three processes: the first is cut while it proposes, and the other two agree without it
 unfoldable pub one_cut : List Event
 one_cut =
-    does (cut_after (Report (process 1) 7) 2) ∷ r 2 6 ∷ r 3 6 ∷ t 1 2 ∷ t 2 2 ∷ t 2 3 ∷ a 2 2 ∷ a 3 2 ∷ t 2 2 ∷ t 3 2 ∷ t 2 3 ∷ t 2 2 ∷ []
+    report_cut 1 7 2 ∷ r 2 6 ∷ r 3 6 ∷ t 1 2 ∷ t 2 2 ∷ t 2 3 ∷ a 2 2 ∷ a 3 2 ∷ t 2 2 ∷ t 3 2 ∷ t 2 3 ∷ t 2 2 ∷ []
 
 abbrev pub OneCut : Type 0
 OneCut =
@@ -125,7 +114,7 @@ OtherProcess =
 
 -- process 2 has stopped before it took the Commit
 unfoldable pub stopped_before : List Event
-stopped_before = r 1 3 ∷ t 1 1 ∷ t 1 2 ∷ a 1 1 ∷ a 2 1 ∷ t 1 1 ∷ t 2 1 ∷ does (whole (Crash (process 2))) ∷ t 1 1 ∷ []
+stopped_before = r 1 3 ∷ t 1 1 ∷ t 1 2 ∷ a 1 1 ∷ a 2 1 ∷ t 1 1 ∷ t 2 1 ∷ x 2 ∷ t 1 1 ∷ []
 
 abbrev pub Stopped : Type 0
 Stopped =

@@ -6,8 +6,8 @@ use Rattle.view.specs.View.{has, within, least_of}
 use Rattle.system.specs.declared.System.{System}
 use Rattle.system.specs.System.{variables_at, entry_in}
 use Rattle.system.specs.Process.{is_written}
-use Rattle.step.specs.Step.{Event, ran}
 use Rattle.step.specs.Rest.{at_rest}
+use Rattle.events.specs.Event.{Event, ran}
 use Rattle.agreement.specs.Demand.{start}
 
 -- the greatest of the indices 1 to i at which process p has an entry; 0 if it has none

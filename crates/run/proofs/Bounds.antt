@@ -15,10 +15,10 @@ use Rattle.system.specs.Fresh.{fresh_system}
 use Rattle.plan.specs.declared.Step.{Step as Order}
 use Rattle.step.specs.Step.{stepped}
 use Rattle.step.proofs.Outcomes.{among, answers, number_listed}
-use Rattle.settle.specs.declared.Ending.{Ending}
-use Rattle.settle.specs.declared.Ending.TheVariants.{Rest, Held, Budget}
-use Rattle.settle.specs.Settle.{settled, settled_tally}
-use Rattle.settle.proofs.Within.{settled_steps, settled_number}
+use Rattle.settling.specs.declared.Ending.{Ending}
+use Rattle.settling.specs.declared.Ending.TheVariants.{Rest, Held, Budget}
+use Rattle.settling.specs.Settle.{settled, settled_tally, settling_budget}
+use Rattle.settling.proofs.Within.{settled_steps, settled_number}
 use Rattle.print.specs.Text.{bytes}
 use Rattle.print.specs.Print.{three_numbers, column_line}
 use Rattle.print.proofs.Bounds.{numbered_length, three-length, column-length, units_length}
@@ -33,7 +33,8 @@ use Rattle.sheet.proofs.Forms.{column_from_1}
 use Rattle.sheet.proofs.FirstBytes.{nothing_said}
 use Rattle.sheet.proofs.GoodLines.{bad_first_column, bad_column}
 use Rattle.view.specs.Logic.{at}
-use Rattle.run.specs.Output.{bad_line, answered, ending_text, settled_as, line_done, printed_then, printed_from, bad_from, started_by, lines_output, output}
+use Rattle.run.specs.declared.TheConstants.{OUTPUT_ROOM}
+use Rattle.run.specs.Output.{bad_line, answered, ending_text, settled_as, line_done, printed_then, printed_from, bad_from, started_by, lines_output, output, sheet_limit}
 
 -- ---- every number has at most two digits
 unfoldable below : ℕ → List ℕ → Bool
@@ -55,7 +56,7 @@ unfolding below
 two_digits s o = among_below 100 answers (stepped s o).refusal refl (number_listed s o)
 
 -- ---- a bad line: a column of two digits takes nine bytes to reach
-column_room : (k column n : ℕ) → k < 100000 → n ≤ 60000 → column ≤ n + 1 → length (column_line k 8 column) ≤ suc n * 10
+column_room : (k column n : ℕ) → k < 100000 → n ≤ sheet_limit → column ≤ n + 1 → length (column_line k 8 column) ≤ suc n * 10
 column_room k column n hk hn near =
     by_test (ltb column 10)
     (λ e. omega (arith, column-length 0 k 8 column hk (omega arith) (omega (arith, ltb-true column 10 e))))
@@ -68,15 +69,15 @@ ending_room Rest = omega arith
 ending_room Held = omega arith
 ending_room Budget = omega arith
 
-settle_room : (k : ℕ) (s : System) → k < 100000 → length (settled_as k (settled_tally 7936 s) (settled 7936 s)).text ≤ 20
+settle_room : (k : ℕ) (s : System) → k < 100000 → length (settled_as k (settled_tally settling_budget s) (settled settling_budget s)).text ≤ 20
 unfolding settled_as
 settle_room k s hk =
-    let o = settled 7936 s in
+    let o = settled settling_budget s in
     rw (length-append (three_numbers k o.refusal o.steps) (ending_text o.ending))
     (omega (
       arith,
       ending_room o.ending,
-      three-length 3 k o.refusal o.steps hk (omega (arith, settled_number 7936 s)) (omega (arith, settled_steps 7936 s)),
+      three-length 3 k o.refusal o.steps hk (omega (arith, settled_number settling_budget s)) (omega (arith, settled_steps settling_budget s)),
     ))
 
 settle_said : (l : List ℕ) → parsed l ≡ Ok Settle → 0 < length l
@@ -84,14 +85,14 @@ settle_said [] e = absurd (let z : ◌≡◌ {A = ℕ} 0 1 = cc (nothing_said []
 settle_said (b ∷ bs) e = omega arith
 
 -- ---- a line
-line_room : (k : ℕ) (s : System) (l : List ℕ) (x : Result Line BadFrom) → parsed l ≡ x → k < 100000 → length l ≤ 60000 → length (line_done k s x).text ≤ suc (length l) * 10
+line_room : (k : ℕ) (s : System) (l : List ℕ) (x : Result Line BadFrom) → parsed l ≡ x → k < 100000 → length l ≤ sheet_limit → length (line_done k s x).text ≤ suc (length l) * 10
 unfolding line_done answered bad_line meaning at
 line_room k s l (Err bad) e hk hl = column_room k bad.0 (length l) hk hl (rw (bad_column l bad.0 e) (column_from_1 later_forms l).1)
 line_room k s l (Ok (Step o)) e hk hl = omega (arith, numbered_length k (stepped s o).refusal hk (two_digits s o))
 line_room k s l (Ok Settle) e hk hl = omega (arith, settle_room k s hk, settle_said l e)
 
 -- ---- line by line
-printed_length : (k : ℕ) (s : System) (ls : List (List ℕ)) → k + length ls < 100000 → weight ls ≤ 60001 → length (printed_from k s ls) ≤ weight ls * 10 + 3400
+printed_length : (k : ℕ) (s : System) (ls : List (List ℕ)) → k + length ls < 100000 → weight ls ≤ sheet_limit + 1 → length (printed_from k s ls) ≤ weight ls * 10 + 3400
 unfolding printed_from printed_then weight
 printed_length k s [] h w = omega (arith, units_length s)
 printed_length k s (l ∷ ls) h w =
@@ -106,7 +107,7 @@ bad_length k (l ∷ ls) h =
     rw (length-append (column_line k 8 0) (bad_from (suc k) ls))
     (omega (arith, column-length 0 k 8 0 (omega arith) (omega arith) (omega arith), bad_length (suc k) ls (omega arith)))
 
-started_length : (l : List ℕ) (ls : List (List ℕ)) (x : Result ℕ BadFrom) → opened l ≡ x → suc (length l) + weight ls ≤ 60001 → length (started_by x ls) ≤ 603400
+started_length : (l : List ℕ) (ls : List (List ℕ)) (x : Result ℕ BadFrom) → opened l ≡ x → suc (length l) + weight ls ≤ sheet_limit + 1 → length (started_by x ls) ≤ OUTPUT_ROOM
 unfolding started_by bad_line meaning_first at
 started_length l ls (Ok n) e w = omega (arith, few_lines ls, printed_length 2 (fresh_system n) ls (omega (arith, few_lines ls)) (omega arith))
 started_length l ls (Err bad) e w =
@@ -118,15 +119,15 @@ started_length l ls (Err bad) e w =
       bad_length 2 ls (omega (arith, few_lines ls)),
     ))
 
-lines_length : (ls : List (List ℕ)) → weight ls ≤ 60001 → length (lines_output ls) ≤ 603400
+lines_length : (ls : List (List ℕ)) → weight ls ≤ sheet_limit + 1 → length (lines_output ls) ≤ OUTPUT_ROOM
 unfolding lines_output weight
 lines_length [] h = omega arith
 lines_length (l ∷ ls) h = started_length l ls (opened l) refl h
 
--- a buffer of 603,400 bytes has room for what is printed for any sheet
-pub output-length : (sheet : List ℕ) → length (output sheet) ≤ 603400
+-- a buffer of so many bytes has room for what is printed for any sheet
+pub output-length : (sheet : List ℕ) → length (output sheet) ≤ OUTPUT_ROOM
 unfolding output bytes
 output-length sheet =
-    by_pick (λ (t : List ℕ). length t ≤ 603400) (ltb 60000 (length sheet)) _ _
+    by_pick (λ (t : List ℕ). length t ≤ OUTPUT_ROOM) (ltb sheet_limit (length sheet)) _ _
     (λ e. omega arith)
-    (λ e. lines_length (lines_of sheet) (omega (arith, few_bytes sheet, ltb-false 60000 (length sheet) e)))
+    (λ e. lines_length (lines_of sheet) (omega (arith, few_bytes sheet, ltb-false sheet_limit (length sheet) e)))

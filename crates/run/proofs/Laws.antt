@@ -11,7 +11,7 @@ use Rattle.view.specs.Logic.{at, pick, is_one_of}
 use Rattle.tallies.specs.declared.Tally.{Tally}
 use Rattle.tallies.specs.Tally.{no_tally, plus, capped}
 use Rattle.system.specs.declared.System.{System}
-use Rattle.step.specs.Counts.{still_waiting}
+use Rattle.events.specs.Counts.{still_waiting}
 use Rattle.print.specs.Text.{bytes}
 use Rattle.print.specs.declared.Page.{Page}
 use Rattle.print.specs.Page.{typed_on}
@@ -25,7 +25,7 @@ use Rattle.sheet.specs.Grammar.{bad_from as bad_from_column}
 use Rattle.sheet.specs.Parse.{meaning_first, opened, parsed}
 use Rattle.sheet.proofs.Laws.{few_bytes, few_lines}
 use Rattle.sheet.proofs.GoodLines.{fresh_size}
-use Rattle.run.specs.Output.{bad_line, line_done, printed_then, printed_from, bad_from, started_by, lines_output, output, tallied_then, tallied_from, tallied_by, lines_tally, sheet_tally}
+use Rattle.run.specs.Output.{bad_line, line_done, printed_then, printed_from, bad_from, started_by, lines_output, output, tallied_then, tallied_from, tallied_by, lines_tally, sheet_tally, sheet_limit}
 
 -- a sheet has no more lines than bytes, and one
 pub few_left : (sheet : List ℕ) (at : ℕ) → length (lines_of (drop at sheet)) ≤ length sheet + 1
@@ -95,35 +95,35 @@ unfolding bad_from
 bad_end total p lines line none whole = sym (whole ∙ ap (λ (ls : List (List ℕ)). typed_on p (bad_from line ls)) none ∙ typed_on_nil p)
 
 -- ---- the whole sheet, by how it begins
-pub output_long : (sheet : List ℕ) → 60000 < length sheet → output sheet ≡ bytes "0 9\n"
+pub output_long : (sheet : List ℕ) → sheet_limit < length sheet → output sheet ≡ bytes "0 9\n"
 unfolding output pick
-output_long sheet h = rw (lt-ltb 60000 (length sheet) h)
+output_long sheet h = rw (lt-ltb sheet_limit (length sheet) h)
 
-pub output_none : (sheet : List ℕ) → length sheet ≤ 60000 → lines_of sheet ≡ [] → output sheet ≡ []
+pub output_none : (sheet : List ℕ) → length sheet ≤ sheet_limit → lines_of sheet ≡ [] → output sheet ≡ []
 unfolding output pick lines_output
-output_none sheet h none = rw (le-ltb 60000 (length sheet) h, none)
+output_none sheet h none = rw (le-ltb sheet_limit (length sheet) h, none)
 
 -- the first line says x
-pub output-begins : (sheet l : List ℕ) (ls : List (List ℕ)) (x : Result ℕ BadFrom) → length sheet ≤ 60000 → lines_of sheet ≡ l ∷ ls
+pub output-begins : (sheet l : List ℕ) (ls : List (List ℕ)) (x : Result ℕ BadFrom) → length sheet ≤ sheet_limit → lines_of sheet ≡ l ∷ ls
     → x ≡ opened l
     → output sheet ≡ started_by x ls
 unfolding output pick lines_output
-output-begins sheet l ls x h first said = rw (le-ltb 60000 (length sheet) h, said) (ap lines_output first)
+output-begins sheet l ls x h first said = rw (le-ltb sheet_limit (length sheet) h, said) (ap lines_output first)
 
 -- and what it counts
-pub tally_long : (sheet : List ℕ) → 60000 < length sheet → sheet_tally sheet ≡ no_tally
+pub tally_long : (sheet : List ℕ) → sheet_limit < length sheet → sheet_tally sheet ≡ no_tally
 unfolding sheet_tally pick
-tally_long sheet h = rw (lt-ltb 60000 (length sheet) h)
+tally_long sheet h = rw (lt-ltb sheet_limit (length sheet) h)
 
-pub tally_none : (sheet : List ℕ) → length sheet ≤ 60000 → lines_of sheet ≡ [] → sheet_tally sheet ≡ no_tally
+pub tally_none : (sheet : List ℕ) → length sheet ≤ sheet_limit → lines_of sheet ≡ [] → sheet_tally sheet ≡ no_tally
 unfolding sheet_tally pick lines_tally
-tally_none sheet h none = rw (le-ltb 60000 (length sheet) h, none)
+tally_none sheet h none = rw (le-ltb sheet_limit (length sheet) h, none)
 
-pub tally_begins : (sheet l : List ℕ) (ls : List (List ℕ)) (x : Result ℕ BadFrom) → length sheet ≤ 60000 → lines_of sheet ≡ l ∷ ls
+pub tally_begins : (sheet l : List ℕ) (ls : List (List ℕ)) (x : Result ℕ BadFrom) → length sheet ≤ sheet_limit → lines_of sheet ≡ l ∷ ls
     → x ≡ opened l
     → sheet_tally sheet ≡ tallied_by x ls
 unfolding sheet_tally pick lines_tally
-tally_begins sheet l ls x h first said = rw (le-ltb 60000 (length sheet) h, said) (ap lines_tally first)
+tally_begins sheet l ls x h first said = rw (le-ltb sheet_limit (length sheet) h, said) (ap lines_tally first)
 
 -- the size that a good first line asks for
 pub started_size : (x : Result ℕ BadFrom) (l : List ℕ) (n : ℕ) → x ≡ opened l → x ≡ Ok n → is_one_of 8 n ≡ true

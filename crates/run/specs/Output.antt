@@ -10,11 +10,11 @@ use Rattle.tallies.specs.Tally.{no_tally, plus, capped}
 use Rattle.system.specs.declared.System.{System}
 use Rattle.system.specs.Outcome.{Outcome}
 use Rattle.system.specs.Fresh.{fresh_system}
-use Rattle.step.specs.Step.{stepped, does}
-use Rattle.step.specs.Counts.{event_tally, still_waiting}
-use Rattle.settle.specs.declared.Ending.{Ending}
-use Rattle.settle.specs.declared.Ending.TheVariants.{Rest, Held, Budget}
-use Rattle.settle.specs.Settle.{Settled, settled, settled_tally}
+use Rattle.step.specs.Step.{stepped}
+use Rattle.events.specs.Counts.{done_tally, still_waiting}
+use Rattle.settling.specs.declared.Ending.{Ending}
+use Rattle.settling.specs.declared.Ending.TheVariants.{Rest, Held, Budget}
+use Rattle.settling.specs.Settle.{Settled, settled, settled_tally, settling_budget}
 use Rattle.print.specs.Text.{bytes}
 use Rattle.print.specs.declared.Page.{Page}
 use Rattle.print.specs.Page.{typed_on}
@@ -53,8 +53,8 @@ settled_as k t o = record { text = three_numbers k o.refusal o.steps ++ ending_t
 -- line k after a good first line: its step, a settling run, or 8 and the column
 unfoldable pub line_done : ℕ → System → Result Line BadFrom → Printed
 line_done k s (Err bad) = record { text = bad_line k (meaning (Err bad)); system = s; tally = no_tally }
-line_done k s (Ok (Step o)) = answered k (event_tally s (does o)) (stepped s o)
-line_done k s (Ok Settle) = settled_as k (settled_tally 7936 s) (settled 7936 s)
+line_done k s (Ok (Step o)) = answered k (done_tally s o) (stepped s o)
+line_done k s (Ok Settle) = settled_as k (settled_tally settling_budget s) (settled settling_budget s)
 
 -- what the program does for a line: its text is typed, the system is as it says, and so is what it counts, where that is asked for
 pub record Done (counting : Bool) (x : Printed) (before after : Page) (s : System) (counted : Tally) : Type 0 where
@@ -86,8 +86,11 @@ lines_output [] = []
 lines_output (l ∷ ls) = started_by (opened l) ls
 
 -- refusal 9: "a sheet of more than 60,000 bytes"
+abbrev pub sheet_limit : ℕ
+sheet_limit = 60000
+
 unfoldable pub output : List ℕ → List ℕ
-output sheet = pick (ltb 60000 (length sheet)) (bytes "0 9\n") (lines_output (lines_of sheet))
+output sheet = pick (ltb sheet_limit (length sheet)) (bytes "0 9\n") (lines_output (lines_of sheet))
 
 -- ---- S-7: what a sheet counts
 -- a line is added to what was counted before it
@@ -109,4 +112,4 @@ lines_tally (l ∷ ls) = tallied_by (opened l) ls
 
 -- a long sheet counts nothing, nor does an empty one, nor one with a bad first line
 unfoldable pub sheet_tally : List ℕ → Tally
-sheet_tally sheet = pick (ltb 60000 (length sheet)) no_tally (lines_tally (lines_of sheet))
+sheet_tally sheet = pick (ltb sheet_limit (length sheet)) no_tally (lines_tally (lines_of sheet))

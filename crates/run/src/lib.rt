@@ -8,7 +8,7 @@ ghost use Rattle.system.specs.Fresh.{fresh_system};
 ghost use Rattle.print.specs.Page.{page, typed, typed_on, StandsFirst};
 ghost use Rattle.sheet.specs.Grammar.{bad_from};
 ghost use Rattle.sheet.specs.Reader.{lines_left};
-ghost use Rattle.run.specs.Output.{printed_from, started_by, output, tallied_from, sheet_tally};
+ghost use Rattle.run.specs.Output.{printed_from, started_by, output, tallied_from, sheet_tally, sheet_limit};
 
 mod lines;
 
@@ -22,6 +22,12 @@ use tallies::Tally;
 // A sheet of more bytes is a long one.
 pub const SHEET_LIMIT: usize = 60_000;
 
+// Room for a sheet and one byte more, by which a long sheet shows.
+pub const SHEET_ROOM: usize = SHEET_LIMIT + 1;
+
+// Room for what is printed for any sheet.
+pub const OUTPUT_ROOM: usize = 603_400;
+
 // What is printed of a line that is not of the form.
 const BAD_LINE: u8 = Refusal::BadLine as u8;
 
@@ -34,7 +40,7 @@ pub struct SheetRun {
 
 // The lines that are left of a sheet after a first line that is bad from a column on.
 fn all_bad(lines: SheetReader, column: usize, page: &mut Page)
-    requires { length lines.sheet.now ≤ 60000 }
+    requires { length lines.sheet.now ≤ sheet_limit }
     ensures { page.new ≡ typed_on page.old (started_by (Err (bad_from column)) (lines_left lines.entry)) }
 {
     page.column(1, BAD_LINE, column);
@@ -88,8 +94,8 @@ pub fn run_sheet(sheet: &[u8], out: &mut [u8]) -> usize
 
 // A whole sheet, printed into a buffer that has room for it: what is printed is the buffer's first
 // bytes, as many as the answer says, and the others stay.
-pub fn print_sheet(sheet: &[u8], out: &mut [u8; 603400]) -> usize
-    ensures { StandsFirst 603400 (output sheet.now) result out.old out.new }
+pub fn print_sheet(sheet: &[u8], out: &mut [u8; OUTPUT_ROOM]) -> usize
+    ensures { StandsFirst OUTPUT_ROOM (output sheet.now) result out.old out.new }
 {
     run_sheet(sheet, out)
 }

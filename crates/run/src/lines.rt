@@ -3,7 +3,7 @@ ghost use Rattle.std.specs.Prelude.{◌≡◌, true};
 ghost use Rattle.sound.specs.Sound.{sound_system};
 ghost use Rattle.image.specs.Image.{system_in};
 ghost use Rattle.print.specs.Page.{typed_on};
-ghost use Rattle.run.specs.Output.{ending_text};
+ghost use Rattle.run.specs.Output.{ending_text, sheet_limit};
 
 use crate::BAD_LINE;
 use counting::{attempt_tallied, still_waiting};
@@ -12,7 +12,8 @@ use fresh::put_fresh;
 use image::{IMAGE, blank_image};
 use plan::Step;
 use print::Page;
-use settle::{Ending, settle};
+use settle::settle;
+use settling::Ending;
 use sheet::parse::{BadFrom, Line, parse};
 use sheet::reader::SheetReader;
 use system::refusal::number_of;
@@ -121,7 +122,7 @@ impl Machine {
 
     // The lines that are left of a sheet, and then the line of each process.
     pub(crate) fn run_lines(mut self, lines: SheetReader, page: &mut Page, counting: bool) -> Tally
-        requires { length lines.sheet.now ≤ 60000 }
+        requires { length lines.sheet.now ≤ sheet_limit }
         ensures printed { page.new ≡ typed_on page.old (printed_from 2 (system_in self.image) (lines_left lines.entry)) }
         ensures counted { counting ≡ true → result ≡ tallied_from 2 no_tally (system_in self.image) (lines_left lines.entry) }
     {

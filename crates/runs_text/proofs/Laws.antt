@@ -10,8 +10,9 @@ use Rattle.system.specs.declared.refusal.Refusal.{Refusal}
 use Rattle.system.specs.Refusal.{number}
 use Rattle.orders.specs.declared.RunCounts.{RunCounts}
 use Rattle.runs_text.specs.RunsText.{walk_text}
+use Rattle.runs_text.specs.declared.TheConstants.{OUTPUT_ROOM}
 
-pub walk_length : (w : Result RunCounts Refusal) → length (walk_text w) ≤ 42
+pub walk_length : (w : Result RunCounts Refusal) → length (walk_text w) ≤ OUTPUT_ROOM
 unfolding walk_text bytes
 walk_length (Ok w) =
     let runs = decimal w.runs in

@@ -38,10 +38,13 @@ fn put_walk(page: &mut Page, walk: Result<RunCounts, Refusal>)
     page.byte(b'\n');
 }
 
+// Room for what is printed for any line.
+pub const OUTPUT_ROOM: usize = 42;
+
 // What is printed for an input, into a buffer that has room for it: the buffer's first bytes, as many
 // as the answer says; the others stay.
-pub fn print_runs(input: &[u8], out: &mut [u8; 42]) -> usize
-    ensures { StandsFirst 42 (runs_output input.now) result out.old out.new }
+pub fn print_runs(input: &[u8], out: &mut [u8; OUTPUT_ROOM]) -> usize
+    ensures { StandsFirst OUTPUT_ROOM (runs_output input.now) result out.old out.new }
 {
     let mut page = Page::new(out, 0);
     put_walk(&mut page, walk_for(input));

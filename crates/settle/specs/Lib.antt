@@ -1,3 +1,3 @@
 -- The settling run.
-pub mod Settle
+pub mod Settles
 pub mod Advances

@@ -6,25 +6,17 @@ ghost use Rattle.std.specs.Prelude.{◌≡◌, true};
 ghost use Rattle.sound.specs.Sound.{sound_system};
 ghost use Rattle.step.specs.Rest.{resting_from, resting_at, at_rest};
 ghost use Rattle.image.specs.Image.{system_in};
-ghost use Rattle.settle.specs.Settle.{Settles};
+ghost use Rattle.settling.specs.Settle.{move_of, settling_budget};
+ghost use Rattle.settle.specs.Settles.{Settles};
 
 use counting::attempt_tallied;
 use image::{blank_image, length_at, pending_at, size, variables_at};
 use plan::{Action, Step};
+use settling::{Ending, Half};
 use system::System;
 use system::refusal::Refusal;
 use tallies::Tally;
 use view::ProcessId;
-
-// How a settling run ended.
-#[derive(Clone, Copy, PartialEq, Eq)]
-pub enum Ending {
-    // No message waits, and no answer could be given.
-    Rest,
-    Held,
-    // The budget is used up, and a further take or answer would be done.
-    Budget,
-}
 
 // What a settling run answers: its steps done, how it ended and what it counts.
 #[derive(Clone, Copy)]
@@ -45,13 +37,6 @@ pub struct SettledSystem {
 // A run stops after so many steps at the latest.
 pub const BUDGET: u16 = 7936;
 
-// The two halves of a round.
-#[derive(Clone, Copy)]
-pub enum Half {
-    Takes,
-    Answers,
-}
-
 // A settling run on its way, on an image that holds a sound system of n processes: its steps so far,
 // and what they count.
 #[derive(Drop)]
@@ -64,24 +49,20 @@ struct Run<'a> {
     ghost sound: { sound_system (system_in image.now) ≡ true },
 }
 
-impl Half {
-    ghost use Rattle.settle.specs.Settle.{move_of};
-
-    // What is tried at process p: a take from q, or an answer to q.
-    #[tactic(auto, unfolding(crate::specs::Settle::move_of))]
-    fn move_of(self, p: ProcessId, q: ProcessId) -> Action
-        ensures { result ≡ move_of self p.0 q.0 }
-    {
-        match self {
-            Half::Takes => Action::Receive(q, p),
-            Half::Answers => Action::Respond(p, q),
-        }
+// What is tried at process p: a take from q, or an answer to q.
+#[tactic(auto, unfolding(settling::specs::Settle::move_of))]
+fn move_of(half: Half, p: ProcessId, q: ProcessId) -> Action
+    ensures { result ≡ move_of half p.0 q.0 }
+{
+    match half {
+        Half::Takes => Action::Receive(q, p),
+        Half::Answers => Action::Respond(p, q),
     }
 }
 
 impl<'a> Run<'a> {
-    ghost use Rattle.std.specs.Prelude.{suc, ◌||◌, not, ltb};
-    ghost use Rattle.settle.specs.Settle.{tried, tried_at, half_done, round_done, rounds_done, nothing_to_do, ending_of};
+    ghost use Rattle.std.specs.Prelude.{suc, ◌||◌, not, [], ltb};
+    ghost use Rattle.settling.specs.Settle.{tried, tried_at, half_done, round_done, rounds_done, nothing_to_do, ending_of};
     ghost use Rattle.settle.specs.Advances.{progress_of, Advances, Begins};
 
     // Before the first step.
@@ -117,7 +98,7 @@ impl<'a> Run<'a> {
         ensures { Advances (tried_at self.old.budget half self.old.n p.0) self.old self.new }
     {
         for q in 1..=self.n {
-            self.try_one(half.move_of(p, ProcessId(q)));
+            self.try_one(move_of(half, p, ProcessId(q)));
         }
     }
 
@@ -169,9 +150,9 @@ impl<'a> Run<'a> {
     }
 
     // How the run has ended.
-    #[tactic(auto, unfolding(crate::specs::Settle::ending_of, view::specs::Logic::pick))]
+    #[tactic(auto, unfolding(settling::specs::Settle::ending_of, view::specs::Logic::pick))]
     fn ending(&self) -> Ending
-        ensures { result ≡ ending_of self.now.budget (progress_of self.now) }
+        ensures { result ≡ ending_of self.now.budget (progress_of self.now []) }
     {
         if self.is_cut_off() {
             Ending::Budget
@@ -228,7 +209,7 @@ pub fn settle_within(image: &mut [u8], budget: u16) -> Result<Settling, Refusal>
 
 // The settling run.
 pub fn settle(image: &mut [u8]) -> Result<Settling, Refusal>
-    ensures { Settles 7936 image.old result image.new }
+    ensures { Settles settling_budget image.old result image.new }
 {
     settle_within(image, BUDGET)
 }

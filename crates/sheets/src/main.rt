@@ -4,7 +4,8 @@
 ghost use Rattle.std.specs.Prelude.{◌≡◌, ◌↔◌, IsTrue};
 ghost use Rattle.run.specs.Output.{output};
 
-use input::{OUTPUT_ROOM, ReadFailed, SHEET_ROOM, read_file, zeros};
+use input::{ReadFailed, read_file, zeros};
+use run::{OUTPUT_ROOM, SHEET_ROOM, print_sheet};
 use std::rt::Files;
 
 // A worked sheet: its name, its file and the file of what it prints.
@@ -50,7 +51,7 @@ fn prints(sheet: &[u8], expected: &[u8]) -> bool
     ensures { IsTrue result ↔ (output sheet.now ≡ expected.now) }
 {
     let mut out = zeros::<OUTPUT_ROOM>();
-    let end = run::print_sheet(sheet, &mut out);
+    let end = print_sheet(sheet, &mut out);
     &out[..end] == expected
 }
 

@@ -18,7 +18,7 @@ use Rattle.system.specs.declared.System.{System}
 use Rattle.system.specs.Process.{index, proposal_of, entry_at, with_entry, pending_at, with_pending, with_variables, with_history}
 use Rattle.system.specs.System.{no_process, process_at, with_process, channel_number, channel_at, with_channel}
 use Rattle.system.specs.Fresh.{fresh_variables, fresh_process, fresh_system}
-use Rattle.sound.specs.Sound.{every, sound_proposal, sound_message, sound_pending, sound_channel, sound_history, sound_variables, sound_process, sound_channel_at, sound_at, sound_system}
+use Rattle.sound.specs.Sound.{every, sound_proposal, sound_message, sound_pending, sound_channel, sound_history, sound_variables, sound_process, sound_process_at, sound_channel_at, sound_channels_from, sound_processes, sound_channels, sound_system}
 
 -- ---- one thing altered
 abbrev pub two : System
@@ -174,7 +174,7 @@ examples =
 
 -- the definition says of each what the list says
 pub examples_right : all_right examples ≡ true
-unfolding sound_system sound_at sound_channel_at sound_process sound_variables sound_history sound_channel sound_pending sound_message sound_proposal every
+unfolding sound_system sound_processes sound_channels sound_channels_from sound_process_at sound_channel_at sound_process sound_variables sound_history sound_channel sound_pending sound_message sound_proposal every
     within has everyone pick all_up_to at put
     fresh_system fresh_process fresh_variables process_at with_process channel_number channel_at with_channel no_process
     entry_at with_entry pending_at with_pending with_variables with_history empty_channel waiting

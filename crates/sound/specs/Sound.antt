@@ -64,12 +64,22 @@ sound_variables n p x =
 unfoldable pub sound_process : ℕ → ℕ → Process → Bool
 sound_process n p x = sound_variables n p x.variables && sound_history n x.history && all_up_to n (λ q. sound_pending n q p (pending_at x q))
 
+unfoldable pub sound_process_at : System → ℕ → Bool
+sound_process_at s p = sound_process s.n p (process_at s p)
+
 unfoldable pub sound_channel_at : System → ℕ → ℕ → Bool
 sound_channel_at s q p = sound_channel s.n (variables_at s p).crashed q p (channel_at s q p)
 
--- process q and each channel that it sends on
-unfoldable pub sound_at : System → ℕ → Bool
-sound_at s q = sound_process s.n q (process_at s q) && all_up_to s.n (sound_channel_at s q)
+-- the channels that process q sends on
+unfoldable pub sound_channels_from : System → ℕ → Bool
+sound_channels_from s q = all_up_to s.n (sound_channel_at s q)
+
+-- what is asked of the processes alone, and of the channels
+unfoldable pub sound_processes : System → Bool
+sound_processes s = in_range 1 8 s.n && all_up_to s.n (sound_process_at s)
+
+unfoldable pub sound_channels : System → Bool
+sound_channels s = all_up_to s.n (sound_channels_from s)
 
 unfoldable pub sound_system : System → Bool
-sound_system s = in_range 1 8 s.n && all_up_to s.n (sound_at s)
+sound_system s = sound_processes s && sound_channels s

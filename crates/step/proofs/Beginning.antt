@@ -2,26 +2,26 @@
 use Prim.Native.Nat.{ℕ, zero, suc, ◌-◌, ◌≤◌}
 use mathlib.Core.Path.{◌≡◌, refl, ◌∙◌, ap, subst}
 use mathlib.Core.Bool.{true}
-use mathlib.Core.List.{List, []}
+use mathlib.Core.List.{[]}
+use mathlib.Core.Logic.{◌⊎◌, inl, inr}
 use native.Mathlib.Omega.{arith}
 use lib.ListN.{length, replicate}
 use Rattle.std.specs.Prelude.{None}
 use Rattle.view.specs.Logic.{pick, all_up_to, at, put, is_one_of}
 use Rattle.view.specs.View.{has, within, everyone}
-use Rattle.view.proofs.Laws.{one_of, at_replicate, at_put_other}
+use Rattle.view.proofs.Laws.{one_of, at_replicate}
 use Rattle.view.proofs.Table.{below}
 use Rattle.channel.specs.Channel.{empty_channel, waiting}
 use Rattle.channel.proofs.Laws.{empty_long, empty-waiting}
 use Rattle.system.specs.declared.Process.{Process}
 use Rattle.system.specs.Process.{Pending, entry_at, with_entry, no_entries, pending_at}
-use Rattle.system.specs.System.{no_process, process_at, variables_at, channel_number, channel_at}
+use Rattle.system.specs.System.{no_process, process_at, variables_at, entry_in, channel_number, channel_at}
 use Rattle.system.specs.Fresh.{fresh_variables, fresh_process, fresh_system}
-use Rattle.sound.specs.Sound.{every, sound_proposal, sound_message, sound_pending, sound_channel, sound_history, sound_variables, sound_process, sound_channel_at, sound_at, sound_system}
-use Rattle.step.specs.Step.{Event, ran}
+use Rattle.system.proofs.Histories.{entry_long, entry_same, entry_other, no_entry}
+use Rattle.sound.specs.Sound.{every, sound_proposal, sound_message, sound_pending, sound_channel, sound_history, sound_variables, sound_process, sound_channel_at, sound_system, sound_process_at, sound_channels_from, sound_processes, sound_channels}
 use Rattle.step.proofs.Frames.{Shape}
 use Rattle.step.proofs.Soundness.{Valid}
 use Rattle.step.proofs.Cases.{waiting_at}
-use Rattle.step.proofs.SoundSteps.{run_valid}
 
 -- an element of a list of equal ones, or the default
 one_or_none : {A : Type 0} (P : A → Type 0) (n k : ℕ) (a d : A) → P a → P d → P (at (replicate n a) k d)
@@ -38,19 +38,6 @@ at_equal zero k a d low high = absurd (omega arith)
 at_equal (suc n) zero a d low high = absurd (omega arith)
 at_equal (suc n) (suc zero) a d low high = refl
 at_equal (suc n) (suc (suc k)) a d low high = at_equal n (suc k) a d (omega arith) (omega arith)
-
--- ---- histories
-pub empty_past_first : (n i : ℕ) → 2 ≤ i → entry_at (with_entry no_entries 1 (everyone n)) i ≡ 0
-unfolding entry_at with_entry
-empty_past_first n i l = at_put_other (replicate 32 0) 1 i (everyone n) 0 (λ e. absurd (omega arith)) ∙ at_replicate 32 i 0
-
-pub first_entry : (n : ℕ) → entry_at (with_entry no_entries 1 (everyone n)) 1 ≡ everyone n
-unfolding entry_at with_entry at put
-first_entry n = refl
-
-pub no_entry : (i : ℕ) → entry_at no_entries i ≡ 0
-unfolding entry_at
-no_entry i = at_replicate 32 i 0
 
 module _ (n : ℕ) where
   -- ---- of each process of a fresh system, and of none
@@ -71,6 +58,24 @@ module _ (n : ℕ) where
   nothing_recorded p q =
       each_fresh (λ x. at x.pending q None ≡ None) (rw (at_replicate {A = Pending} 8 q None)) (rw (at_replicate {A = Pending} 8 q None)) p
 
+  -- ---- its entries: "every entry at position 1 is the set of all n; other positions are empty"
+  pub nothing_entered : (p i : ℕ) → 2 ≤ i → entry_in (fresh_system n) p i ≡ 0
+  unfolding entry_in fresh_process no_process
+  nothing_entered p i l =
+      each_fresh (λ x. entry_at x.history i ≡ 0) (entry_other no_entries 1 (everyone n) i (λ e. absurd (omega arith)) ∙ no_entry i) (no_entry i) p
+
+  pub first_entered : (p : ℕ) → 1 ≤ p → p ≤ 8 → entry_in (fresh_system n) p 1 ≡ everyone n
+  unfolding entry_in fresh_process
+  first_entered p low high = grind (arith, fresh_process_lem, entry_same)
+
+  -- one and the same for each process, and nothing where there is none
+  pub first_or_none : (p : ℕ) → (entry_in (fresh_system n) p 1 ≡ everyone n) ⊎ (entry_in (fresh_system n) p 1 ≡ 0)
+  unfolding entry_in fresh_process no_process
+  first_or_none =
+      each_fresh (λ x. (entry_at x.history 1 ≡ everyone n) ⊎ (entry_at x.history 1 ≡ 0))
+      (inl (entry_same no_entries 1 (everyone n) (omega arith) (omega arith)))
+      (inr (no_entry 1))
+
   -- ---- its channels
   pub fresh_channel : (q p : ℕ) → channel_at (fresh_system n) q p ≡ empty_channel
   unfolding channel_at fresh_system
@@ -81,20 +86,20 @@ module _ (n : ℕ) where
 
   -- ---- it is valid
   pub fresh_shape : Shape (fresh_system n)
-  unfolding fresh_system fresh_process no_process with_entry put
+  unfolding fresh_system fresh_process no_process
   fresh_shape =
       record {
         processes = refl;
         channels = refl;
         slots = λ q p. rw (fresh_channel q p) empty_long;
         pending = each_fresh (λ x. length x.pending ≡ 8) refl refl;
-        entries = each_fresh (λ x. length x.history.entries ≡ 32) refl refl;
+        entries = each_fresh (λ x. length x.history.entries ≡ 32) (entry_long no_entries 1 (everyone n)) refl;
         trust = refl;
       }
 
 -- the fresh systems of 1 to 8, computed
 fresh_sound : (n : ℕ) → is_one_of 8 n ≡ true → sound_system (fresh_system n) ≡ true
-unfolding pick all_up_to at put has within everyone empty_channel waiting entry_at with_entry pending_at no_process process_at channel_number channel_at fresh_variables fresh_process fresh_system every sound_proposal sound_message sound_pending sound_channel sound_history sound_variables sound_process sound_channel_at sound_at sound_system
+unfolding pick all_up_to at put has within everyone empty_channel waiting entry_at with_entry pending_at no_process process_at channel_number channel_at fresh_variables fresh_process fresh_system every sound_proposal sound_message sound_pending sound_channel sound_history sound_variables sound_process sound_process_at sound_channel_at sound_channels_from sound_processes sound_channels sound_system
 fresh_sound n e =
     let b = one_of 8 n e in
     let back : suc (n - 1) ≡ n = omega arith in
@@ -102,7 +107,3 @@ fresh_sound n e =
 
 pub fresh_valid : (n : ℕ) → is_one_of 8 n ≡ true → Valid (fresh_system n)
 fresh_valid n e = record { shape = fresh_shape n; sound = fresh_sound n e }
-
--- every system that events reach is sound
-pub run_sound : (n : ℕ) → is_one_of 8 n ≡ true → (es : List Event) → sound_system (ran (fresh_system n) es) ≡ true
-run_sound n e es = (run_valid (fresh_system n) (fresh_valid n e) es).sound

@@ -57,9 +57,9 @@ module _ (v : System) (shape : Shape v) (p : ℕ) (number : Numbered p) (to : �
             (λ e.
             subst (λ (j : ℕ). channel_at (with_channel t p (suc k) c) p j ≡ pushed (channel_at v p j) m) (sym e)
             (channel_same t w.frame.shape p (suc k) number next c ∙ ap (λ (d : Channel). pushed d m) before))
-            (λ n. channel_apart t w.frame.shape p (suc k) number next c p b (λ z. n z.1) ∙ w.reached b (omega arith) x y);
+            (λ n. channel_apart t p (suc k) c p b (λ z. n z.1) ∙ w.reached b (omega arith) x y);
         rest = λ a b h.
-            channel_apart t w.frame.shape p (suc k) number next c a b
+            channel_apart t p (suc k) c a b
             (λ z.
             h z.0 (omega (arith, z.1))
             (subst (λ (j : ℕ). has to j ≡ true) (sym z.1) named)
@@ -105,8 +105,8 @@ emptied_up_to v shape p number (suc k) h =
           (λ e.
           subst (λ (j : ℕ). channel_at (with_channel t (suc k) p empty_channel) j p ≡ empty_channel) (sym e)
           (channel_same t w.frame.shape (suc k) p from number empty_channel))
-          (λ n. channel_apart t w.frame.shape (suc k) p from number empty_channel a p (λ z. n z.0) ∙ w.reached a l (omega arith));
-      rest = λ a b n. channel_apart t w.frame.shape (suc k) p from number empty_channel a b (λ z. n z.1) ∙ w.rest a b n;
+          (λ n. channel_apart t (suc k) p empty_channel a p (λ z. n z.0) ∙ w.reached a l (omega arith));
+      rest = λ a b n. channel_apart t (suc k) p empty_channel a b (λ z. n z.1) ∙ w.rest a b n;
     }
 
 -- no channel runs from a number that no process can have

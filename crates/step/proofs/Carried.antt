@@ -7,8 +7,9 @@ use native.Mathlib.Omega.{arith}
 use borrow.Author.Tests.{ltb-true, eqb-true, eqb-false}
 use lib.ListN.{length, drop}
 use lib.Dec.{eqb}
+use Rattle.std.specs.Prelude.{Result}
 use Rattle.view.specs.Logic.{pick, each_up_to, is_one_of}
-use Rattle.view.specs.View.{has}
+use Rattle.view.specs.View.{has, count_of, first_members}
 use Rattle.view.proofs.Laws.{one_of, by_pick, true_is_not_false, all_elim, each_keeps, length-put, and_left, and_right}
 use Rattle.view.proofs.Sets.{has_number, count_none, first_has}
 use Rattle.channel.specs.declared.Message.{Message}
@@ -17,19 +18,22 @@ use Rattle.channel.specs.Channel.{empty_channel, waiting, popped}
 use Rattle.channel.proofs.Laws.{push_waiting, push_short, empty_short, empty-waiting, pop_waiting, pop_long, pop_short}
 use Rattle.system.specs.declared.Process.{Process}
 use Rattle.system.specs.declared.System.{System}
+use Rattle.system.specs.declared.refusal.Refusal.{Refusal}
 use Rattle.system.specs.Outcome.{Outcome}
-use Rattle.system.specs.Process.{as_crashed, with_variables, with_entry}
+use Rattle.system.specs.Process.{as_crashed, with_variables}
 use Rattle.system.specs.System.{process_at, variables_at, with_process, channel_at, with_channel, with_trust, trusting, broadcasted, takes_if_named, room_for}
+use Rattle.system.proofs.Histories.{entry_long}
 use Rattle.plan.specs.declared.Change.{Change}
 use Rattle.plan.specs.declared.Cut.{Cut}
 use Rattle.plan.specs.declared.Cut.TheVariants.{Whole, After}
 use Rattle.plan.specs.declared.Scope.{Scope}
-use Rattle.plan.specs.Plan.{changed, Planned}
-use Rattle.plan.specs.Cut.{cut_short, cut_by}
-use Rattle.step.specs.Step.{departed, suspected_if_named, doubted, changed_at, crashed_at, crashed_if, effected, taken_off, carried_out, permitted}
-use Rattle.step.proofs.Frames.{Shape, Numbered, channels_stay, process_same, process_other, channel_same, channel_apart, shape_process, each_channel}
+use Rattle.plan.specs.Plan.{changed, Planned, plan}
+use Rattle.plan.specs.Cut.{reach_of, cut_by}
+use Rattle.step.specs.Step.{departed, suspected_if_named, doubted, changed_at, crashed_at, crashed_if, effected, taken_off, if_allowed, carried_out, permitted}
+use Rattle.step.proofs.Frames.{Shape, Numbered, channels_stay, process_same, process_other, channel_apart, shape_process, each_channel}
 use Rattle.step.proofs.Cases.{waiting_at, afterwards, Fate, stays, grows, empties, Effect, Known, Acts, Taken}
 use Rattle.step.proofs.Soundness.{Sound, Valid, sound_facts}
+use Rattle.step.proofs.TakenOff.{popped_same}
 use Rattle.step.proofs.Trust.{effect_trust}
 use Rattle.step.proofs.Broadcasts.{Channels, channels_same, channels_with, Told, told_all, Emptied, emptied_up_to, emptied_all}
 
@@ -50,11 +54,11 @@ module _ (s u : System) (ready : Ready s u) (p : ℕ) (number : Numbered p) (liv
   w = broadcasted v p to m
 
   v_shape : Shape v
-  unfolding changed with_entry
+  unfolding changed
   v_shape =
       shape_process u ready.frame.shape p number x
       (length-put (process_at u p).pending c.proposer.0 _ ∙ ready.frame.shape.pending p)
-      (length-put (process_at u p).history.entries c.index.0 _ ∙ ready.frame.shape.entries p)
+      (entry_long (process_at u p).history c.index.0 c.entry ∙ ready.frame.shape.entries p)
 
   pub out : Told v p to m 8 w
   out = told_all v v_shape p number to m
@@ -184,11 +188,16 @@ pub doubted_ready : (s u : System) → Ready s u → (p d : ℕ) → Ready s (do
 unfolding doubted with_trust process_at channel_at
 doubted_ready s u ready p d = grind (arith, doubted_shape)
 
+-- an effect that tells just these
+pub record Telling (s t : System) (left : ℕ → ℕ → List Message) (p : ℕ) (c : Change) (stops : Bool) (to : ℕ) (m : Message) (reach : ℕ) : Type 0 where
+  pub effect : Effect s t left p c stops to m
+  pub just : effect.told ≡ reach
+
 -- the effect of any plan. No change touches whether a process has stopped: that is for the stop
 pub plan_effect : (s u : System) → Ready s u → (p : ℕ) → Numbered p → (variables_at s p).crashed ≡ false → (a : Planned) → a.change.variables.crashed ≡ false
     → room_for u p a.addressees ≡ true
-    → Effect s (effected u p a) (waiting_at u) p a.change a.stops a.addressees a.message
-unfolding effected changed_at crashed_if pick doubted with_trust channel_at room_for takes_if_named process_at
+    → Telling s (effected u p a) (waiting_at u) p a.change a.stops a.addressees a.message a.addressees
+unfolding sent_effect stopped_effect effected changed_at crashed_if pick doubted with_trust channel_at room_for takes_if_named process_at
 plan_effect s u ready p number live a calm room = by_stop a.stops
   where
     w : System
@@ -197,9 +206,9 @@ plan_effect s u ready p number live a calm room = by_stop a.stops
     f : Effect s w (waiting_at u) p a.change false a.addressees a.message
     f = sent_effect s (doubted u p a.suspects) (doubted_ready s u ready p a.suspects) p number live a.change calm a.addressees a.message room
 
-    by_stop : (stops : Bool) → Effect s (pick stops (crashed_at w p) w) (waiting_at u) p a.change stops a.addressees a.message
-    by_stop true = stopped_effect f number
-    by_stop false = f
+    by_stop : (stops : Bool) → Telling s (pick stops (crashed_at w p) w) (waiting_at u) p a.change stops a.addressees a.message a.addressees
+    by_stop true = record { effect = stopped_effect f number; just = refl }
+    by_stop false = record { effect = f; just = refl }
 
 -- ---- the message comes off
 taken_ready : (s : System) → Shape s → (q p : ℕ) → Numbered q → Numbered p → Ready s (with_channel s q p (popped (channel_at s q p)))
@@ -219,23 +228,41 @@ some_wait : (c : Channel) (m : Message) (ms : List Message) → waiting c ≡ m 
 unfolding waiting
 some_wait c m ms e = grind arith
 
-pub taken_first : (s : System) → Shape s → (q p : ℕ) → Numbered q → Numbered p → (channel_at s q p).len ≤ 8 → (m : Message) (ms : List Message) → waiting_at s q p ≡ m ∷ ms
+pub taken_first : (s : System) → Shape s → (q p : ℕ) → (channel_at s q p).len ≤ 8 → (m : Message) (ms : List Message) → waiting_at s q p ≡ m ∷ ms
     → Taken s q p m (waiting_at (with_channel s q p (popped (channel_at s q p))))
-taken_first s shape q p from to short m ms e =
+taken_first s shape q p short m ms e =
     record {
       first = e
           ∙ ap (λ (l : List Message). m ∷ l)
           (sym (ap (drop 1) e) ∙ pop_waiting (channel_at s q p) (shape.slots q p) (some_wait (channel_at s q p) m ms e) short
-          ∙ ap waiting (sym (channel_same s shape q p from to (popped (channel_at s q p)))));
+          ∙ ap waiting (sym (popped_same s q p)));
       others = λ a b h. grind (arith, channel_apart);
     }
 
 -- Messages that are never sent: where p stops, an effect on some of the addressees is one on all of them. So what is proved of every
 -- transition is proved of those that are cut.
 never_sent : {s t : System} {left : ℕ → ℕ → List Message} {p : ℕ} {c : Change} {some to : ℕ} {m : Message} → ((b : ℕ) → has some b ≡ true → has to b ≡ true)
-    → Effect s t left p c true some m
-    → Effect s t left p c true to m
-never_sent inside f = grind arith
+    → Telling s t left p c true some m some
+    → Telling s t left p c true to m some
+never_sent inside f =
+    let e = f.effect in
+    record {
+      effect =
+          record {
+            shape = e.shape;
+            size = e.size;
+            actor = e.actor;
+            others = e.others;
+            told = e.told;
+            addressed = λ b h. inside b (e.addressed b h);
+            whole = λ z. true_is_not_false z;
+            channels = e.channels;
+            sent = e.sent;
+            silent = e.silent;
+            short = e.short;
+          };
+      just = f.just;
+    }
 
 -- ---- any plan: the step is done where p may act, q is known, the plan is not refused and its message finds room
 pub record Carried (s t : System) (left : ℕ → ℕ → List Message) (p q : ℕ) (a : Planned) : Type 0 where
@@ -243,7 +270,7 @@ pub record Carried (s t : System) (left : ℕ → ℕ → List Message) (p q : �
   pub partner : Known s q
   pub plain : a.refusal ≡ 0
   pub trust : t.trust ≡ each_up_to 8 (suspected_if_named s p a.suspects) s.trust
-  pub effect : a.change.variables.crashed ≡ (variables_at s p).crashed → Effect s t left p a.change a.stops a.addressees a.message
+  pub effect : a.change.variables.crashed ≡ (variables_at s p).crashed → Telling s t left p a.change a.stops a.addressees a.message a.addressees
 
 -- as the definition of a step says it
 abbrev Done : System → Scope → Planned → Outcome → Type 0
@@ -271,11 +298,12 @@ module _ (s : System) (valid : Valid s) where
   carried c a =
       let to = is_one_of s.n c.actor.0 in
       let from = is_one_of s.n c.partner.0 in
-      by_pick (Done s c a) (to && from) _ _
+      let D = λ (r : Result (Unit {0}) Refusal). Done s c a (if_allowed s r (carried_out s (taken_off s c) c.actor.0 a)) in
+      by_pick D (to && from) _ _
       (λ both.
       let k = known c.actor.0 (and_left to from both) in
       let j = known c.partner.0 (and_right to from both) in
-      by_pick (Done s c a) (variables_at s c.actor.0).crashed _ _
+      by_pick D (variables_at s c.actor.0).crashed _ _
       (λ crashed z. absurd (omega arith))
       (λ live.
       by_pick (Done s c a) (eqb a.refusal 0) _ _
@@ -294,19 +322,34 @@ module _ (s : System) (valid : Valid s) where
       (λ stranger z. absurd (omega arith))
 
 -- ---- any action, whose plan is a: whole, or cut
-pub record Performed (s t : System) (left : ℕ → ℕ → List Message) (p q : ℕ) (a : Planned) : Type 0 where
+pub record Performed (s t : System) (left : ℕ → ℕ → List Message) (p q : ℕ) (a : Planned) (reach : ℕ) : Type 0 where
   pub acts : Acts s p
   pub partner : Known s q
   pub plain : a.refusal ≡ 0
   pub trust : t.trust ≡ each_up_to 8 (suspected_if_named s p a.suspects) s.trust
   -- its process stops where it does as it plans, and where it is cut
   pub stops : Bool
-  pub effect : a.change.variables.crashed ≡ (variables_at s p).crashed → Effect s t left p a.change stops a.addressees a.message
+  pub effect : a.change.variables.crashed ≡ (variables_at s p).crashed → Telling s t left p a.change stops a.addressees a.message reach
   -- what sends nothing is never cut
   pub quiet : a.addressees ≡ 0 → a.change.variables.crashed ≡ (variables_at s p).crashed
-      → Effect s t left p a.change a.stops a.addressees a.message
+      → Telling s t left p a.change a.stops a.addressees a.message reach
 
-pub performed : {s t : System} {left : ℕ → ℕ → List Message} {p q : ℕ} (cut : Cut) (a : Planned) → Carried s t left p q (cut_by cut a) → Performed s t left p q a
-unfolding cut_by cut_short pick
+cut_performed : {s t : System} {left : ℕ → ℕ → List Message} {p q n : ℕ} {a : Planned} → a.refusal ≡ 0 → n < count_of a.addressees
+    → Carried s t left p q (plan 0 a.change true (first_members n a.addressees) a.message a.suspects)
+    → Performed s t left p q a (first_members n a.addressees)
+cut_performed {n} {a} plain early k =
+    record {
+      acts = k.acts;
+      partner = k.partner;
+      plain = plain;
+      trust = k.trust;
+      stops = true;
+      effect = λ calm. never_sent (first_has n a.addressees) (k.effect calm);
+      quiet = λ none. absurd (omega (arith, early, ap count_of none ∙ count_none));
+    }
+
+pub performed : {s t : System} {left : ℕ → ℕ → List Message} {p q : ℕ} (cut : Cut) (a : Planned) → Carried s t left p q (cut_by cut a)
+    → Performed s t left p q a (cut_by cut a).addressees
+unfolding cut_by reach_of pick
 performed Whole a = grind arith
-performed {s} {t} {left} {p} {q} (After n) a = grind (arith, never_sent, first_has, count_none)
+performed {s} {t} {left} {p} {q} (After n) a = grind (arith, cut_performed)

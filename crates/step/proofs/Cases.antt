@@ -4,7 +4,6 @@ use Prim.Native.Nat.{ℕ, ◌≤◌, ◌<◌, ◌+◌}
 use mathlib.Core.Path.{◌≡◌, refl}
 use mathlib.Core.Bool.{Bool, true, false, ◌||◌, not}
 use mathlib.Core.List.{List, [], ◌∷◌, ◌++◌}
-use native.Mathlib.Omega.{arith}
 use Rattle.std.specs.Prelude.{None, Some}
 use Rattle.view.specs.declared.ProcessId.{ProcessId}
 use Rattle.view.specs.declared.GroupIndex.{GroupIndex}
@@ -23,7 +22,7 @@ use Rattle.plan.specs.declared.Action.{Action}
 use Rattle.plan.specs.declared.Action.TheVariants.{Report, Receive, Respond, Crash}
 use Rattle.plan.specs.Fields.{with_view, with_next, with_acks, proposing, reproposing}
 use Rattle.plan.specs.Plan.{assigning, recording, entering, no_message}
-use Rattle.step.specs.Scope.{scope_of}
+use Rattle.plan.specs.Scope.{scope_of}
 use Rattle.step.proofs.Frames.{Shape}
 use Rattle.step.proofs.Soundness.{SoundProposal}
 
@@ -282,12 +281,13 @@ pub record Outline (s t : System) (p : ℕ) : Type 0 where
   pub effect : Effect s t left p change stops to message
   pub calm : change.variables.crashed ≡ (variables_at s p).crashed
 
-outlined : {s t : System} {p : ℕ} {left : ℕ → ℕ → List Message} {c : Change} {stops : Bool} {to : ℕ} {m : Message} → Acts s p → Effect s t left p c stops to m
+unfoldable pub outlined : {s t : System} {p : ℕ} {left : ℕ → ℕ → List Message} {c : Change} {stops : Bool} {to : ℕ} {m : Message} → Acts s p → Effect s t left p c stops to m
     → c.variables.crashed ≡ (variables_at s p).crashed
     → Outline s t p
-outlined {left} {c} {stops} {to} {m} acts effect calm = grind arith
+outlined {left} {c} {stops} {to} {m} acts effect calm =
+    record { acts = acts; left = left; change = c; stops = stops; to = to; message = m; effect = effect; calm = calm }
 
-pub outline : {s t : System} {o : Action} → Transition s t o → Outline s t (scope_of o).actor.0
+unfoldable pub outline : {s t : System} {o : Action} → Transition s t o → Outline s t (scope_of o).actor.0
 unfolding scope_of
 outline (proposes r) = outlined r.acts r.effect refl
 outline (follows r) = outlined r.acts r.effect refl
@@ -300,3 +300,15 @@ outline (enters r) = outlined r.acts r.effect refl
 outline (accepts r) = outlined r.acts r.effect refl
 outline (declines r) = outlined r.acts r.effect refl
 outline (crashes r) = outlined r.acts r.effect refl
+
+-- those that a transition tells
+abbrev pub told_in : {s t : System} {o : Action} → Transition s t o → ℕ
+told_in k = (outline k).effect.told
+
+-- a transition that tells just these
+pub record Reaches (s t : System) (o : Action) (reach : ℕ) : Type 0 where
+  pub transition : Transition s t o
+  pub told : told_in transition ≡ reach
+
+pub tells : {s t : System} {o : Action} {reach : ℕ} (k : Transition s t o) → told_in k ≡ reach → Reaches s t o reach
+tells k e = record { transition = k; told = e }

@@ -5,13 +5,14 @@ use mathlib.Core.Path.{◌≡◌, refl, ◌∙◌}
 use mathlib.Core.Bool.{true, ◌&&◌}
 use native.Mathlib.Omega.{arith}
 use lib.ListN.{length}
-use Rattle.view.specs.Logic.{is_one_of}
+use Rattle.channel.specs.Channel.{empty_channel}
+use Rattle.view.specs.Logic.{is_one_of, put}
 use Rattle.view.proofs.Laws.{at_put_same, at_put_other, length-put}
 use Rattle.channel.specs.declared.Channel.{Channel}
 use Rattle.system.specs.declared.Process.{Process}
 use Rattle.system.specs.declared.System.{System}
 use Rattle.system.specs.System.{no_process, process_at, with_process, channel_number, channel_at, with_channel}
-use Rattle.system.proofs.Laws.{number_in, number_found}
+use Rattle.system.proofs.Laws.{number_in, same_ends}
 
 pub record Shape (s : System) : Type 0 where
   pub processes : length s.processes ≡ 8
@@ -44,6 +45,19 @@ module _ (s : System) (shape : Shape s) (p : ℕ) (number : Numbered p) (x : Pro
   each_of : (P : Process → Type 0) → P x → ((k : ℕ) → P (process_at s k)) → (k : ℕ) → P (process_at (with_process s p x) k)
   each_of P new old k = grind (arith, process_same, process_other)
 
+-- ---- a channel is replaced
+module _ (s : System) (q p : ℕ) (c : Channel) where
+  channel_other : (a b : ℕ) → (channel_number a b ≡ channel_number q p → ⊥) → channel_at (with_channel s q p c) a b ≡ channel_at s a b
+  unfolding channel_at with_channel
+  channel_other a b h = at_put_other s.channels (channel_number q p) (channel_number a b) c empty_channel h
+
+  no_channel : (a b : ℕ) → channel_number q p ≡ 0 → channel_at (with_channel s q p c) a b ≡ channel_at s a b
+  unfolding channel_at with_channel put
+  no_channel a b e = rw e
+
+  pub channel_apart : (a b : ℕ) → ((a ≡ q) × (b ≡ p) → ⊥) → channel_at (with_channel s q p c) a b ≡ channel_at s a b
+  channel_apart a b h = grind (arith, same_ends, channel_other, no_channel)
+
 module _ (s : System) (shape : Shape s) (q p : ℕ) (from : Numbered q) (to : Numbered p) (c : Channel) where
   both : (is_one_of 8 q && is_one_of 8 p) ≡ true
   both = grind arith
@@ -52,20 +66,9 @@ module _ (s : System) (shape : Shape s) (q p : ℕ) (from : Numbered q) (to : Nu
   unfolding channel_at with_channel
   channel_same = grind (arith, at_put_same, number_in)
 
-  channel_other : (a b : ℕ) → (channel_number a b ≡ channel_number q p → ⊥) → channel_at (with_channel s q p c) a b ≡ channel_at s a b
-  unfolding channel_at with_channel
-  channel_other a b h = grind (arith, at_put_other)
-
-  -- a channel of that number runs between the same two processes
-  same_ends : (a b : ℕ) → channel_number a b ≡ channel_number q p → (a ≡ q) × (b ≡ p)
-  same_ends a b e = grind (arith, number_found, number_in, both)
-
-  pub channel_apart : (a b : ℕ) → ((a ≡ q) × (b ≡ p) → ⊥) → channel_at (with_channel s q p c) a b ≡ channel_at s a b
-  channel_apart a b h = channel_other a b (λ e. h (same_ends a b e))
-
   -- of each channel: of the new one, and of the others as before
   pub each_channel : (P : ℕ → ℕ → Channel → Type 0) → P q p c → ((a b : ℕ) → P a b (channel_at s a b)) → (a b : ℕ) → P a b (channel_at (with_channel s q p c) a b)
-  each_channel P new old a b = grind (arith, same_ends, channel_same, channel_other)
+  each_channel P new old a b = grind (arith, channel_same, channel_apart)
 
   long_channels : length (with_channel s q p c).channels ≡ 64
   unfolding with_channel

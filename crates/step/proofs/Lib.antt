@@ -4,6 +4,7 @@ pub mod Soundness
 pub mod Cases
 pub mod Effects
 pub mod Weights
+pub mod TakenOff
 pub mod Broadcasts
 pub mod Trust
 pub mod Carried
@@ -11,4 +12,4 @@ pub mod Inversion
 pub mod SoundSteps
 pub mod Beginning
 pub mod Outcomes
-pub mod Tallied
+pub mod Stakes

@@ -3,7 +3,7 @@
 use Prim.Native.Nat.{ℕ}
 use mathlib.Core.Path.{◌≡◌, refl, sym, ◌∙◌, ap}
 use mathlib.Core.Bool.{Bool, true, false, ◌||◌}
-use mathlib.Core.List.{List, [], ◌∷◌, ◌++◌}
+use mathlib.Core.List.{List, [], ◌∷◌}
 use mathlib.Core.Logic.{◌⊎◌}
 use native.Mathlib.Omega.{arith}
 use lib.Dec.{eqb}
@@ -16,8 +16,6 @@ use Rattle.view.proofs.Laws.{by_pick, each_keeps, true_is_not_false}
 use Rattle.channel.specs.declared.Message.{Message}
 use Rattle.channel.specs.declared.Message.TheVariants.{Propose, Retry, Acc, Commit}
 use Rattle.channel.specs.Channel.{front_of}
-use Rattle.tallies.specs.Tally.{plus}
-use Rattle.tallies.proofs.Laws.{none_plus, plus-plus}
 use Rattle.system.specs.declared.Variables.{Variables}
 use Rattle.system.specs.declared.System.{System}
 use Rattle.system.specs.Outcome.{Outcome, refused}
@@ -31,14 +29,12 @@ use Rattle.plan.specs.declared.Cut.{Cut}
 use Rattle.plan.specs.declared.Cut.TheVariants.{Whole, After}
 use Rattle.plan.specs.declared.Step.{Step}
 use Rattle.plan.specs.Plan.{new_view_plan, report_plan, committing_plan, message_plan, receive_plan, respond_plan, Planned}
-use Rattle.step.specs.Scope.{scope_of}
-use Rattle.plan.specs.Cut.{cut_short, cut_by}
-use Rattle.step.specs.Counts.{event_tally, events_tally}
-use Rattle.step.specs.Step.{plan_of, taken_off, doubted, changed_at, emptied_from, crashed_at, crashed_if, effected, permitted, carried_out, attempted, stepped, Event, does, happened, ran}
-use Rattle.step.proofs.Soundness.{Sound, Valid, sound_facts, proposal_facts}
+use Rattle.plan.specs.Scope.{scope_of}
+use Rattle.plan.specs.Cut.{reach_of, cut_by}
+use Rattle.step.specs.Step.{plan_of, taken_off, doubted, changed_at, emptied_from, crashed_at, crashed_if, effected, permitted, carried_out, attempted, stepped}
+use Rattle.step.proofs.Soundness.{Sound, sound_facts, proposal_facts}
 use Rattle.step.proofs.Cases.{Transition}
-use Rattle.step.proofs.Inversion.{sound_stepped, done_or_refused, by_outcome}
-use Rattle.step.proofs.SoundSteps.{event_valid}
+use Rattle.step.proofs.Inversion.{sound_stepped, done_or_refused}
 
 -- demand 1, of every system and every step: 0, or the same system
 pub zero_or_same : (s : System) (o : Step) → ((stepped s o).refusal ≡ 0) ⊎ ((stepped s o).system ≡ s)
@@ -100,7 +96,7 @@ respond-told n p q x None sound = refl
 respond-told n p q x (Some r) sound = grind (arith, proposal_facts)
 
 cut_told : (cut : Cut) (a : Planned) → Told a → Told (cut_by cut a)
-unfolding among cut_by cut_short pick
+unfolding among cut_by reach_of pick
 cut_told Whole a h = h
 cut_told (After k) a h = grind arith
 
@@ -134,42 +130,11 @@ pub unsound_is_1 : (s : System) (o : Step) → sound_system s ≡ false → step
 unfolding stepped pick
 unsound_is_1 s o e = rw e
 
--- so nothing is ever done in it
-pub unsound_stays : (s : System) → sound_system s ≡ false → (es : List Event) → ran s es ≡ s
-unfolding ran happened
-unsound_stays s e [] = refl
-unsound_stays s e (does o ∷ es) = ap (λ (a : Outcome). ran a.system es) (unsound_is_1 s o e) ∙ unsound_stays s e es
-
 -- every number is one of the table's
 pub number_listed : (s : System) (o : Step) → among answers (stepped s o).refusal ≡ true
 unfolding among stepped pick
 number_listed s o = grind (arith, attempted-told, sound_facts)
 
--- ---- lists of events, one after the other
-pub ran_append : (s : System) (es fs : List Event) → ran s (es ++ fs) ≡ ran (ran s es) fs
-unfolding ran
-ran_append s [] fs = refl
-ran_append s (e ∷ es) fs = ran_append (happened s e).system es fs
-
-pub tally_append : (s : System) (es fs : List Event) → events_tally s (es ++ fs) ≡ plus (events_tally s es) (events_tally (ran s es) fs)
-unfolding ran events_tally
-tally_append s [] fs = sym (none_plus (events_tally s fs))
-tally_append s (e ∷ es) fs =
-    let t = (happened s e).system in
-    ap (plus (event_tally s e)) (tally_append t es fs) ∙ sym (plus-plus (event_tally s e) (events_tally t es) (events_tally (ran t es) fs))
-
--- ---- stopped for good
-stays_stopped : {s t : System} {o : Action} → Transition s t o → (k : ℕ) → (variables_at s k).crashed ≡ true → (variables_at t k).crashed ≡ true
+-- ---- stopped for good: by every step that is done (events/proofs/Runs has it of runs)
+pub stays_stopped : {s t : System} {o : Action} → Transition s t o → (k : ℕ) → (variables_at s k).crashed ≡ true → (variables_at t k).crashed ≡ true
 stays_stopped {s} {t} r k crashed = grind arith
-
-still_stopped : (s : System) → Valid s → (e : Event) (k : ℕ) → (variables_at s k).crashed ≡ true → (variables_at (happened s e).system k).crashed ≡ true
-unfolding happened
-still_stopped s valid (does o) k crashed =
-    by_outcome (λ (a : Outcome). (variables_at a.system k).crashed ≡ true) s o valid (λ t r. stays_stopped r k crashed) (λ j n. crashed)
-
--- a process that has crashed is crashed after every list of events
-pub stopped_for_good : (s : System) → Valid s → (es : List Event) (k : ℕ) → (variables_at s k).crashed ≡ true → (variables_at (ran s es) k).crashed ≡ true
-unfolding ran
-stopped_for_good s valid [] k crashed = crashed
-stopped_for_good s valid (e ∷ es) k crashed =
-    stopped_for_good (happened s e).system (event_valid s e valid) es k (still_stopped s valid e k crashed)

@@ -19,8 +19,9 @@ use Rattle.system.specs.declared.Variables.{Variables}
 use Rattle.system.specs.declared.Process.{Process}
 use Rattle.system.specs.declared.System.{System}
 use Rattle.system.specs.Outcome.{Outcome}
-use Rattle.system.specs.Process.{index, entry_at, Pending, proposal_of}
+use Rattle.system.specs.Process.{index, Pending, proposal_of}
 use Rattle.system.specs.System.{process_at, variables_at, channel_at}
+use Rattle.system.proofs.Histories.{entry_other, each_entry}
 use Rattle.sound.specs.Sound.{sound_message, sound_pending}
 use Rattle.plan.specs.declared.Change.{Change}
 use Rattle.plan.specs.declared.Action.{Action}
@@ -28,10 +29,10 @@ use Rattle.plan.specs.declared.Action.TheVariants.{Report, Receive, Respond, Cra
 use Rattle.plan.specs.declared.Step.{Step}
 use Rattle.plan.specs.Fields.{with_view, with_next, with_acks, proposing, reproposing}
 use Rattle.plan.specs.Plan.{assigning, recording, entering, no_message}
-use Rattle.step.specs.Step.{stepped, Event, does, happened, ran}
+use Rattle.step.specs.Step.{stepped}
 use Rattle.step.proofs.Soundness.{SoundProposal, SoundVariables, SoundProcess, SoundChannel, Sound, Valid, sound_facts, facts_sound, proposal_sound}
 use Rattle.step.proofs.Cases.{waiting_at, Acts, afterwards, Fate, stays, grows, empties, Effect, Marking, present, stale, Transition, proposes, follows, records, reproposes, ignores, marks, commits, enters, accepts, declines, crashes}
-use Rattle.step.proofs.Effects.{Part, all_left, taken_left, each_process, each_on, each_pending, each_entry}
+use Rattle.step.proofs.Effects.{Part, all_left, taken_left, each_process, each_on, each_pending}
 use Rattle.step.proofs.Inversion.{by_outcome}
 
 -- ---- the process that acted
@@ -59,9 +60,8 @@ changed_sound n p x c stops f g =
             none_proposed = g.variables.none_proposed;
             own_proposed = g.variables.own_proposed;
           };
-      entries = each_entry (λ i v. 1 ≤ i → i ≤ 32 → within n v ≡ true) x c stops (λ l a b. g.entry) f.entries;
-      first = each_entry (λ i v. i ≡ 1 → v ≡ 0 → ⊥) x c stops (λ l e. absurd (g.past e))
-          (λ i e. subst (λ (j : ℕ). entry_at x.history j ≡ 0 → ⊥) (sym e) f.first) 1 refl;
+      entries = each_entry x.history c.index.0 c.entry (λ i v. 1 ≤ i → i ≤ 32 → within n v ≡ true) (λ l a b. g.entry) f.entries;
+      first = rw (entry_other x.history c.index.0 c.entry 1 (λ e. g.past (sym e))) f.first;
       recorded = each_pending (λ j y. 1 ≤ j → j ≤ n → sound_pending n j p y ≡ true) x c stops (λ l a b. g.pending) f.recorded;
     }
 
@@ -263,12 +263,3 @@ module _ (s t : System) (valid : Valid s) where
 -- "a step on a sound system gives a sound system", refused ones too
 pub step_sound : (s : System) (o : Step) → Valid s → Valid (stepped s o).system
 step_sound s o valid = by_outcome (λ (a : Outcome). Valid a.system) s o valid (λ t r. transition_sound s t valid o.action r) (λ k n. valid)
-
-pub event_valid : (s : System) (e : Event) → Valid s → Valid (happened s e).system
-unfolding happened
-event_valid s (does o) valid = step_sound s o valid
-
-pub run_valid : (s : System) → Valid s → (es : List Event) → Valid (ran s es)
-unfolding ran
-run_valid s valid [] = valid
-run_valid s valid (e ∷ es) = run_valid (happened s e).system (event_valid s e valid) es

@@ -19,7 +19,7 @@ use Rattle.system.specs.declared.Process.{Process}
 use Rattle.system.specs.declared.System.{System}
 use Rattle.system.specs.Process.{entry_at, pending_at}
 use Rattle.system.specs.System.{process_at, variables_at, channel_at}
-use Rattle.sound.specs.Sound.{in_range, every, sound_proposal, sound_message, sound_pending, sound_channel, sound_history, sound_variables, sound_process, sound_channel_at, sound_at, sound_system}
+use Rattle.sound.specs.Sound.{in_range, every, sound_proposal, sound_message, sound_pending, sound_channel, sound_history, sound_variables, sound_process, sound_process_at, sound_channel_at, sound_channels_from, sound_processes, sound_channels, sound_system}
 use Rattle.step.proofs.Frames.{Shape}
 
 -- ---- a proposal
@@ -143,28 +143,22 @@ pub record Sound (s : System) : Type 0 where
   pub process : (p : ℕ) → 1 ≤ p → p ≤ s.n → SoundProcess s.n p (process_at s p)
   pub channel : (q p : ℕ) → 1 ≤ q → q ≤ s.n → 1 ≤ p → p ≤ s.n → SoundChannel s.n (variables_at s p).crashed q p (channel_at s q p)
 
-sound_at_lem : (s : System) → sound_system s ≡ true → (q : ℕ) → 1 ≤ q → q ≤ s.n
-    → (sound_process s.n q (process_at s q) ≡ true) × (all_up_to s.n (sound_channel_at s q) ≡ true)
-unfolding sound_system sound_at
-sound_at_lem s e q l u =
-    let t = all_elim s.n (sound_at s) (and_right (in_range 1 8 s.n) (all_up_to s.n (sound_at s)) e) q l u in (
-      and_left (sound_process s.n q (process_at s q)) (all_up_to s.n (sound_channel_at s q)) t,
-      and_right (sound_process s.n q (process_at s q)) (all_up_to s.n (sound_channel_at s q)) t,
-    )
-
 pub sound_facts : (s : System) → sound_system s ≡ true → Sound s
-unfolding sound_system sound_channel_at
+unfolding sound_system sound_processes sound_channels sound_process_at sound_channels_from sound_channel_at
 sound_facts s e =
-    let a = and_left (in_range 1 8 s.n) (all_up_to s.n (sound_at s)) e in
+    let ps = and_left (sound_processes s) (sound_channels s) e in
+    let size = and_left (in_range 1 8 s.n) (all_up_to s.n (sound_process_at s)) ps in
+    let each_process = and_right (in_range 1 8 s.n) (all_up_to s.n (sound_process_at s)) ps in
+    let each_sender = and_right (sound_processes s) (sound_channels s) e in
     record {
-      low = leb-true 1 s.n (and_left (leb 1 s.n) (leb s.n 8) a);
-      high = leb-true s.n 8 (and_right (leb 1 s.n) (leb s.n 8) a);
-      process = λ q l u. process_facts _ _ _ (sound_at_lem s e q l u).0;
-      channel = λ q p l u k v. channel_facts _ _ _ _ _ (all_elim s.n (sound_channel_at s q) (sound_at_lem s e q l u).1 p k v);
+      low = leb-true 1 s.n (and_left (leb 1 s.n) (leb s.n 8) size);
+      high = leb-true s.n 8 (and_right (leb 1 s.n) (leb s.n 8) size);
+      process = λ q l u. process_facts _ _ _ (all_elim s.n (sound_process_at s) each_process q l u);
+      channel = λ q p l u k v. channel_facts _ _ _ _ _ (all_elim s.n (sound_channel_at s q) (all_elim s.n (sound_channels_from s) each_sender q l u) p k v);
     }
 
 pub facts_sound : (s : System) → Sound s → sound_system s ≡ true
-unfolding sound_system sound_at sound_channel_at
+unfolding sound_system sound_processes sound_channels sound_process_at sound_channels_from sound_channel_at
 facts_sound s f = grind (arith, all_intro, process_sound, channel_sound)
 
 -- what every step is proved of: the arrays have their lengths, and the system is sound

@@ -6,7 +6,7 @@ use mathlib.Core.List.{List, [], ◌∷◌, ◌++◌}
 use native.Mathlib.Omega.{arith}
 use borrow.Author.Tests.{eq-eqb}
 use lib.Dec.{eqb}
-use Rattle.view.specs.Logic.{pick}
+use Rattle.view.specs.Logic.{pick, one}
 use Rattle.view.specs.View.{has}
 use Rattle.view.proofs.Laws.{by_test}
 use Rattle.view.proofs.Sets.{has_none, has-with}
@@ -15,7 +15,6 @@ use Rattle.system.specs.declared.Variables.{Variables}
 use Rattle.system.specs.declared.System.{System}
 use Rattle.system.specs.System.{variables_at}
 use Rattle.plan.specs.declared.Change.{Change}
-use Rattle.step.specs.Counts.{one}
 use Rattle.step.proofs.Cases.{waiting_at, Taken, Effect, Marking, present, stale}
 
 -- ---- 1 or 0
@@ -60,6 +59,10 @@ pub count_end : (w : Message → ℕ) (ms : List Message) (m : Message) → coun
 unfolding count
 count_end w [] m = omega arith
 count_end w (n ∷ ms) m = omega (arith, count_end w ms m)
+
+-- nothing is taken off
+pub none_off : (s : System) (w : Message → ℕ) (a b : ℕ) → count w (waiting_at s a b) + 0 ≡ count w (waiting_at s a b)
+none_off s w a b = omega arith
 
 -- what is taken off
 pub taken_off_lem : {s : System} {q p : ℕ} {m : Message} {left : ℕ → ℕ → List Message} → Taken s q p m left → (w : Message → ℕ) (a b : ℕ)

@@ -1,9 +1,13 @@
--- One step of any kind on any system, and a list of events.
-use Rattle.std.specs.Prelude.{ℕ, Bool, true, ◌&&◌, not, List, [], ◌∷◌, eqb}
+-- One step of any kind on any system.
+use Rattle.std.specs.Prelude.{ℕ, Bool, true, ◌&&◌, not, List, Result, Ok, Err, eqb}
 use Rattle.view.specs.Logic.{pick, unless, each_up_to, is_one_of}
 use Rattle.view.specs.View.{has}
+use Rattle.view.specs.declared.ProcessId.{ProcessId}
 use Rattle.channel.specs.Channel.{empty_channel, front, popped}
 use Rattle.system.specs.declared.System.{System}
+use Rattle.system.specs.declared.refusal.Refusal.{Refusal}
+use Rattle.system.specs.declared.refusal.Refusal.TheVariants.{Stranger, Crashed}
+use Rattle.system.specs.Refusal.{number}
 use Rattle.system.specs.Outcome.{Outcome, done, refused}
 use Rattle.system.specs.Process.{as_crashed, pending_at, with_variables}
 use Rattle.system.specs.System.{process_at, variables_at, with_process, channel_at, with_channel, trust_at, with_trust, trusting, broadcasted, room_for}
@@ -11,18 +15,17 @@ use Rattle.sound.specs.Sound.{sound_system}
 use Rattle.plan.specs.declared.Change.{Change}
 use Rattle.plan.specs.declared.Scope.{Scope}
 use Rattle.plan.specs.declared.Action.{Action}
-use Rattle.plan.specs.declared.Action.TheVariants.{Report, Receive, Respond, Crash}
 use Rattle.plan.specs.declared.Step.{Step}
-use Rattle.plan.specs.Plan.{changed, report_plan, receive_plan, respond_plan, crash_plan, Planned}
-use Rattle.step.specs.Scope.{scope_of}
+use Rattle.plan.specs.Plan.{changed, plan_from, Planned}
+use Rattle.plan.specs.Scope.{scope_of}
 use Rattle.plan.specs.Cut.{cut_by}
 
 -- what the acting process plans, where it is not cut
 unfoldable pub plan_of : System → Action → Planned
-plan_of s (Report p v) = report_plan s.n p.0 v (variables_at s p.0) (trust_at s p.0)
-plan_of s (Receive q p) = receive_plan q p.0 (variables_at s p.0) (front (channel_at s q.0 p.0))
-plan_of s (Respond p q) = respond_plan q (variables_at s p.0) (pending_at (process_at s p.0) q.0)
-plan_of s (Crash p) = crash_plan (variables_at s p.0)
+plan_of s o =
+    let p = (scope_of o).actor.0 in
+    let q = (scope_of o).partner.0 in
+    plan_from s.n o (variables_at s p) (trust_at s p) (front (channel_at s q p)) (pending_at (process_at s p) q)
 
 -- "The oldest message on the line from q to p comes off.", where the step takes one
 unfoldable pub taken_off : System → Scope → System
@@ -73,13 +76,18 @@ carried_out s t p a =
     (unless (room_for t p a.addressees) (refused 7 s)
     (done (effected t p a)))
 
--- Refusal 2, "a unit number in the step is not 1 to n"; refusal 3, "the unit that would act has stopped". Otherwise the plan is
--- carried out.
+-- Refusal 2, "a unit number in the step is not 1 to n"; refusal 3, "the unit that would act has stopped": process p acts, and the action
+-- names process q too
+abbrev pub guarded : System → ProcessId → ProcessId → Result (Unit {0}) Refusal
+guarded s p q = unless (is_one_of s.n p.0 && is_one_of s.n q.0) (Err Stranger) (pick (variables_at s p.0).crashed (Err Crashed) (Ok tt))
+
+abbrev pub if_allowed : System → Result (Unit {0}) Refusal → Outcome → Outcome
+if_allowed s (Ok x) o = o
+if_allowed s (Err r) o = refused (number r) s
+
+-- otherwise the plan is carried out
 unfoldable pub permitted : System → Scope → Planned → Outcome
-permitted s c a =
-    unless (is_one_of s.n c.actor.0 && is_one_of s.n c.partner.0) (refused 2 s)
-    (pick (variables_at s c.actor.0).crashed (refused 3 s)
-    (carried_out s (taken_off s c) c.actor.0 a))
+permitted s c a = if_allowed s (guarded s c.actor c.partner) (carried_out s (taken_off s c) c.actor.0 a)
 
 -- the step, on a system taken to be sound
 unfoldable pub attempted : System → Step → Outcome
@@ -88,16 +96,3 @@ attempted s o = permitted s (scope_of o.action) (cut_by o.cut (plan_of s o.actio
 -- the step. Refusal 1: "the table is not sound"
 unfoldable pub stepped : System → Step → Outcome
 stepped s o = unless (sound_system s) (refused 1 s) (attempted s o)
-
--- What happens to a system: a step, whole or cut. This is a type of the definitions alone, so that an event can hold what no enum of the
--- program can, such as a list.
-pub data Event : Type 0 where
-  does : Step → Event
-
-unfoldable pub happened : System → Event → Outcome
-happened s (does o) = stepped s o
-
--- the system after a list of events, "each handed the table that the one before returned"
-unfoldable pub ran : System → List Event → System
-ran s [] = s
-ran s (e ∷ es) = ran (happened s e).system es

@@ -30,6 +30,10 @@ number_next i j hi hj =
     let e = number_in (i + 1) (j + 1) (and_intro (is_one_of_lem 8 (i + 1) (omega arith) (omega arith)) (is_one_of_lem 8 (j + 1) (omega arith) (omega arith))) in
     omega (arith, e)
 
+-- two channels of one number that there is run between the same two processes
+pub same_ends : (q p a b : ℕ) → 1 ≤ channel_number q p → channel_number a b ≡ channel_number q p → (a ≡ q) × (b ≡ p)
+same_ends q p a b some e = grind (arith, number_found, number_in)
+
 -- ---- where the code looks for a channel among the sixty-four
 no_channel : (q p : ℕ) → (is_one_of 8 q && is_one_of 8 p) ≡ false → place_of 64 (channel_number q p) ≡ None
 unfolding place_of pick

@@ -8,8 +8,9 @@ ghost use Rattle.input.specs.Received.{IsPrefixLen, read_len};
 
 use class::names::gather;
 use class::{LINE_LIMIT, NAME_LIMIT, print_all, print_name};
-use input::{CHUNK_ROOM, Failure, ReadFailed, SHEET_ROOM, read_file, zeros};
+use input::{CHUNK_ROOM, Failure, ReadFailed, read_file, zeros};
 use print::Page;
+use run::SHEET_ROOM;
 use std::io::Read;
 use std::rt::Files;
 use tallies::Tally;

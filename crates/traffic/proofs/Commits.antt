@@ -1,6 +1,6 @@
--- An event that counts a committed proposal is the transition that sends Commits.
+-- A move that counts a committed proposal is the transition that sends Commits.
 use Prim.Native.Nat.{ℕ}
-use mathlib.Core.Path.{◌≡◌, refl, subst}
+use mathlib.Core.Path.{◌≡◌, refl, ap, subst}
 use mathlib.Core.Bool.{Bool, true, false}
 use mathlib.Core.List.{List}
 use native.Mathlib.Omega.{arith}
@@ -10,13 +10,13 @@ use lib.Dec.{eqb}
 use Rattle.std.specs.Prelude.{None, Some}
 use Rattle.view.specs.declared.ProcessId.{ProcessId}
 use Rattle.view.specs.declared.GroupIndex.{GroupIndex}
-use Rattle.view.specs.Logic.{pick}
+use Rattle.view.specs.Logic.{pick, one}
 use Rattle.view.specs.View.{subset, with}
-use Rattle.tallies.specs.Tally.{no_tally}
 use Rattle.channel.specs.declared.Message.{Message}
 use Rattle.channel.specs.declared.Message.TheVariants.{Retry}
 use Rattle.system.specs.declared.Variables.{Variables}
 use Rattle.system.specs.declared.System.{System}
+use Rattle.system.specs.Outcome.{refused}
 use Rattle.system.specs.Process.{Pending}
 use Rattle.system.specs.System.{variables_at}
 use Rattle.plan.specs.declared.Cut.{Cut}
@@ -26,15 +26,17 @@ use Rattle.plan.specs.declared.Action.{Action}
 use Rattle.plan.specs.declared.Action.TheVariants.{Report, Receive, Respond, Crash}
 use Rattle.plan.specs.Fields.{with_acks}
 use Rattle.plan.specs.Plan.{new_view_plan, report_plan, committing_plan, message_plan, receive_plan, respond_plan, Planned}
-use Rattle.step.specs.Scope.{scope_of}
-use Rattle.plan.specs.Cut.{cut_short, cut_by}
-use Rattle.step.specs.Step.{plan_of, stepped, Event, does, happened}
-use Rattle.step.specs.Counts.{one, is_commit, plan_tally, event_tally}
+use Rattle.plan.specs.Scope.{scope_of}
+use Rattle.plan.specs.Cut.{reach_of, cut_by}
+use Rattle.step.specs.Step.{plan_of, stepped}
+use Rattle.events.specs.Counts.{is_commit, plan_tally, step_tally, move_tally}
 use Rattle.step.proofs.Soundness.{Valid}
 use Rattle.step.proofs.Cases.{Taken, Marking, present, stale, Commits, Transition, proposes, follows, records, reproposes, ignores, marks, commits, enters, accepts, declines, crashes}
 use Rattle.step.proofs.Inversion.{transition}
+use Rattle.events.specs.Event.{Move, made, moved}
+use Rattle.events.proofs.Runs.{Made}
 use Rattle.traffic.specs.Traffic.{acting_in}
-use Rattle.traffic.proofs.Steps.{done_tally, by_event}
+use Rattle.traffic.proofs.Steps.{made_tally}
 
 -- process p sends Commits
 pub record Committing (s t : System) (p : ℕ) : Type 0 where
@@ -75,7 +77,7 @@ retry_plain q p x old new = grind arith
 taking_plain : (s : System) (q p : ProcessId) (m : Message) (left : ℕ → ℕ → List Message) → Taken s q.0 p.0 m left
     → Plain (message_plan q p.0 (variables_at s p.0) m)
     → Plain (plan_of s (Receive q p))
-unfolding plan_of receive_plan
+unfolding plan_of scope_of receive_plan
 taking_plain s q p m left taken plain = grind arith
 
 -- ---- each transition
@@ -96,10 +98,10 @@ module _ {s t : System} where
   commits_only (Respond p q) (declines r) e = grind (arith, respond_plain)
   commits_only (Crash p) (crashes r) e = clash _ e refl
 
--- ---- an event
+-- ---- whole or cut
 -- what sends Commits once it is cut would send them
 uncut : (cut : Cut) (a : Planned) → is_commit (cut_by cut a).message ≡ true → is_commit a.message ≡ true
-unfolding cut_by cut_short is_commit pick
+unfolding cut_by reach_of is_commit pick
 uncut Whole a = λ e. e
 uncut (After k) a = grind arith
 
@@ -108,13 +110,12 @@ unfolding one pick
 is_one true e = refl
 is_one false e = absurd (omega arith)
 
--- a step that is done
-pub done_committing : (s : System) → Valid s → (o : Step) → (stepped s o).refusal ≡ 0 → (done_tally s o).committed ≡ 1
-    → Committing s (stepped s o).system (scope_of o.action).actor.0
+-- ---- a step that is done
+pub step_committing : {s t : System} {o : Step} → Valid s → Made s t o → (step_tally s o).committed ≡ 1 → Committing s t (scope_of o.action).actor.0
 unfolding plan_tally
-done_committing s valid o done e = grind (arith, commits_only, transition, uncut, is_one)
+step_committing valid r e = grind (arith, made_tally, commits_only, uncut, is_one)
 
-pub committing : (s : System) → Valid s → (e : Event) → (event_tally s e).committed ≡ 1 → Committing s (happened s e).system (acting_in e)
-unfolding happened acting_in no_tally
-committing s valid (does o) =
-    by_event (λ a t. a.committed ≡ 1 → Committing s t (scope_of o.action).actor.0) s valid o (done_committing s valid o) (λ e. absurd (omega arith))
+pub committing : (s : System) → Valid s → (m : Move) → (moved s m).refusal ≡ 0 → (move_tally s m).committed ≡ 1 → Committing s (moved s m).system (acting_in m)
+unfolding moved move_tally acting_in
+committing s valid (made o) e =
+    step_committing valid (record { done = ap (λ (k : ℕ). refused k (stepped s o).system) e; change = transition s o valid e })

@@ -7,7 +7,7 @@ use native.Mathlib.Omega.{arith}
 use borrow.Author.Tests.{lt-ltb}
 use lib.Dec.{ltb}
 use Rattle.view.specs.declared.ProcessId.{ProcessId}
-use Rattle.view.specs.Logic.{pick}
+use Rattle.view.specs.Logic.{pick, one}
 use Rattle.view.specs.View.{has}
 use Rattle.view.proofs.Laws.{by_number}
 use Rattle.view.proofs.Sets.{subset-has}
@@ -19,7 +19,6 @@ use Rattle.system.specs.System.{process_at, variables_at}
 use Rattle.plan.specs.declared.Change.{Change}
 use Rattle.plan.specs.declared.Action.{Action}
 use Rattle.plan.specs.declared.Action.TheVariants.{Report, Receive, Respond, Crash}
-use Rattle.step.specs.Counts.{one}
 use Rattle.step.proofs.Cases.{waiting_at, afterwards, Taken, Effect, Marks, Commits, Accepts, Transition, proposes, follows, records, reproposes, ignores, marks, commits, enters, accepts, declines, crashes}
 use Rattle.step.proofs.Weights.{one_true, one_small, unmarked, is, is_self, is_other, mark, count, taken_off_lem, weighs, marked_present}
 

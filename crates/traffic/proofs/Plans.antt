@@ -6,7 +6,7 @@ use mathlib.Core.Bool.{true, ◌&&◌, not}
 use mathlib.Core.List.{List, [], ◌∷◌}
 use native.Mathlib.Omega.{arith}
 use lib.Dec.{leb, ltb, eqb}
-use Rattle.std.specs.Prelude.{None, Some}
+use Rattle.std.specs.Prelude.{None, Some, Result}
 use Rattle.view.specs.declared.ProcessId.{ProcessId}
 use Rattle.view.specs.View.{has, within, subset, with, minus, least_of, count_of, first_members}
 use Rattle.view.specs.Logic.{pick}
@@ -17,16 +17,18 @@ use Rattle.channel.specs.declared.Message.TheVariants.{Propose, Retry, Acc, Comm
 use Rattle.channel.specs.Channel.{front_of, waiting}
 use Rattle.system.specs.declared.Variables.{Variables}
 use Rattle.system.specs.declared.System.{System}
+use Rattle.system.specs.declared.refusal.Refusal.{Refusal}
 use Rattle.system.specs.Process.{pending_at, Pending}
 use Rattle.system.specs.System.{process_at, variables_at, channel_at, trust_at}
 use Rattle.plan.specs.declared.Cut.{Cut}
+use Rattle.plan.specs.declared.Reach.{Reach}
 use Rattle.plan.specs.declared.Cut.TheVariants.{Whole, After}
 use Rattle.plan.specs.declared.Action.{Action}
 use Rattle.plan.specs.declared.Action.TheVariants.{Report, Receive, Respond, Crash}
 use Rattle.plan.specs.Fields.{with_acks}
 use Rattle.plan.specs.Plan.{new_view_plan, report_plan, committing_plan, message_plan, receive_plan, respond_plan, Planned}
-use Rattle.step.specs.Scope.{scope_of}
-use Rattle.plan.specs.Cut.{cut_short, cut_by}
+use Rattle.plan.specs.Scope.{scope_of}
+use Rattle.plan.specs.Cut.{reach_of, cut_by, within_reach}
 use Rattle.step.specs.Step.{plan_of}
 use Rattle.step.proofs.Soundness.{Sound}
 use Rattle.step.proofs.Cases.{Known}
@@ -94,12 +96,12 @@ plan_fits s sound (Crash p) k j = sends_none refl refl
 
 -- ---- cut or not
 cut_fits : (n : ℕ) (x : Variables) (cut : Cut) (a : Planned) → Fits n x a → Fits n x (cut_by cut a)
-unfolding cut_by cut_short
+unfolding cut_by reach_of
 cut_fits n x Whole a f = f
 cut_fits n x (After k) a f =
     by_pick (Fits n x) (eqb a.refusal 0) _ _
     (λ plain.
-    by_pick (Fits n x) (ltb k (count_of a.addressees)) _ _
+    by_pick (λ (r : Result Reach Refusal). Fits n x (within_reach a r)) (ltb k (count_of a.addressees)) _ _
     (λ early. record { inside = within_if n (first_members k a.addressees) (λ b h. has_inside n a.addressees b f.inside (first_has k a.addressees b h)); calm = f.calm })
     (λ late. sends_none refl f.calm))
     (λ refusal. f)
@@ -110,7 +112,7 @@ step_fits s sound o cut k j = cut_fits s.n _ cut (plan_of s o) (plan_fits s soun
 
 -- what is not refused once it is cut would not be refused
 pub cut_plain : (cut : Cut) (a : Planned) → (cut_by cut a).refusal ≡ 0 → a.refusal ≡ 0
-unfolding cut_by cut_short pick
+unfolding cut_by reach_of pick
 cut_plain Whole a = λ e. e
 cut_plain (After k) a = grind arith
 

@@ -3,29 +3,32 @@ use Prim.Native.Nat.{ℕ, ◌+◌, ◌≤◌, ◌<◌}
 use mathlib.Core.Path.{◌≡◌, refl, sym, ◌∙◌, subst}
 use mathlib.Core.Bool.{Bool, true, false, ◌&&◌}
 use native.Mathlib.Omega.{arith}
-use borrow.Author.Tests.{eqb-true, eqb-false}
+use borrow.Author.Tests.{eqb-true}
 use lib.Dec.{eqb}
-use Rattle.view.specs.Logic.{pick, is_one_of}
+use Rattle.view.specs.Logic.{pick, is_one_of, one}
+use Rattle.std.specs.Prelude.{Result}
 use Rattle.view.specs.View.{has, within, count_of}
 use Rattle.view.proofs.Laws.{by_pick, and_left, and_right}
 use Rattle.tallies.specs.declared.Tally.{Tally}
 use Rattle.tallies.specs.Tally.{no_tally}
 use Rattle.system.specs.declared.System.{System}
-use Rattle.system.specs.Outcome.{Outcome}
+use Rattle.system.specs.declared.refusal.Refusal.{Refusal}
+use Rattle.system.specs.Outcome.{Outcome, done}
 use Rattle.system.specs.System.{process_at, variables_at, channel_at, with_trust, takes_if_named, room_for}
 use Rattle.plan.specs.declared.Scope.{Scope}
 use Rattle.plan.specs.declared.Step.{Step}
-use Rattle.step.specs.Scope.{scope_of}
+use Rattle.plan.specs.Scope.{scope_of}
 use Rattle.plan.specs.Cut.{cut_by}
 use Rattle.plan.specs.Plan.{Planned}
-use Rattle.step.specs.Step.{plan_of, taken_off, placed, doubted, changed_at, crashed_at, crashed_if, effected, carried_out, permitted, attempted, stepped, Event, does, happened}
-use Rattle.step.specs.Counts.{waiting_in, waiting_towards, one, vanishes_at, vanished, lost_at, plan_tally, tally_if, step_tally, event_tally}
+use Rattle.step.specs.Step.{plan_of, taken_off, placed, doubted, changed_at, crashed_at, crashed_if, effected, carried_out, permitted, attempted, if_allowed}
+use Rattle.events.specs.Counts.{waiting_in, waiting_towards, vanishes_at, vanished, lost_at, plan_tally, tally_if, step_tally}
 use Rattle.step.proofs.Frames.{Numbered}
 use Rattle.step.proofs.Cases.{waiting_at, Known, Effect}
 use Rattle.step.proofs.Soundness.{Valid}
 use Rattle.step.proofs.Carried.{Ready, doubted_ready, ready, sent_effect, sound, number, known}
-use Rattle.step.proofs.Inversion.{sound_stepped, done_or_refused}
+use Rattle.step.proofs.Inversion.{sound_stepped}
 use Rattle.step.proofs.Outcomes.{effected_size}
+use Rattle.events.proofs.Runs.{Made}
 use Rattle.traffic.proofs.Plans.{step_fits, cut_plain, message_found}
 use Rattle.traffic.proofs.Waiting.{towards_up_to, waiting_up_to, towards_sized, waiting_sized, one_off, own_told, waits_once_told, waits_once_stopped}
 
@@ -67,35 +70,36 @@ unfolding taken_off one pick
 off_waits s valid c to from some = grind (arith, one_off)
 
 -- ---- the step
--- what waited, and what is sent: it waits, or is taken, or is lost
+-- What waited in s, and what is sent, waits in t, or is taken, or is lost. (A step counts nothing as waiting: that is counted in the end.)
 abbrev pub Balanced : System → System → Tally → Type 0
-Balanced s t a = waiting_in t + (a.taken + a.lost) ≡ waiting_in s + a.sent
+Balanced s t a = a.taken + (a.waiting + waiting_in t) + a.lost ≡ waiting_in s + a.sent
 
--- the outcome of a step whose plan is a
-abbrev BalancedIfDone : System → Scope → Planned → Outcome → Type 0
-BalancedIfDone s c a o = o.refusal ≡ 0 → Balanced s o.system (plan_tally (taken_off s c) c a)
+-- the outcome of a step whose plan is a; one that is refused counts nothing
+abbrev BalancedOutcome : System → Scope → Planned → Outcome → Type 0
+BalancedOutcome s c a o = Balanced s o.system (tally_if o.refusal (plan_tally (taken_off s c) c a))
 
-attempt_balanced : (s : System) → Valid s → (o : Step) → BalancedIfDone s (scope_of o.action) (cut_by o.cut (plan_of s o.action)) (attempted s o)
-unfolding attempted permitted carried_out plan_tally
+attempt_balanced : (s : System) → Valid s → (o : Step) → Balanced s (attempted s o).system (step_tally s o)
+unfolding attempted permitted carried_out step_tally tally_if plan_tally no_tally pick
 attempt_balanced s valid o =
     let c = scope_of o.action in
     let a = cut_by o.cut (plan_of s o.action) in
-    let C = BalancedIfDone s c a in
+    let C = BalancedOutcome s c a in
     let to = is_one_of s.n c.actor.0 in
     let from = is_one_of s.n c.partner.0 in
-    by_pick C (to && from) _ _
+    let D = λ (r : Result (Unit {0}) Refusal). C (if_allowed s r (carried_out s (taken_off s c) c.actor.0 a)) in
+    by_pick D (to && from) _ _
     (λ both.
     let k = known s valid c.actor.0 (and_left to from both) in
     let j = known s valid c.partner.0 (and_right to from both) in
     let fits = step_fits s (sound s valid) o.action o.cut k j in
     let r = ready s valid c k j in
-    by_pick C (variables_at s c.actor.0).crashed _ _
-    (λ crashed z. absurd (omega arith))
+    by_pick D (variables_at s c.actor.0).crashed _ _
+    (λ crashed. omega arith)
     (λ live.
     by_pick C (eqb a.refusal 0) _ _
     (λ plain.
     by_pick C (room_for (taken_off s c) c.actor.0 a.addressees) _ _
-    (λ room z.
+    (λ room.
     omega (
       arith,
       effected_waits s.n (sound s valid).high s (taken_off s c) refl r c.actor.0 (number s valid _ k) k.high live a (fits.calm ∙ live) room
@@ -104,29 +108,19 @@ attempt_balanced s valid o =
       waiting_sized s.n s refl,
       waiting_sized s.n (effected (taken_off s c) c.actor.0 a) (effected_size s.n (taken_off s c) c.actor.0 a r.frame.size),
     ))
-    (λ full z. absurd (omega arith)))
-    (λ refusal z. absurd (eqb-false a.refusal 0 refusal z))))
-    (λ stranger z. absurd (omega arith))
+    (λ full. omega arith))
+    (λ refusal. rw refusal (omega arith))))
+    (λ stranger. omega arith)
 
--- ---- an event, done or refused
--- what a step counts where it is done
-abbrev pub done_tally : System → Step → Tally
-done_tally s o = plan_tally (taken_off s (scope_of o.action)) (scope_of o.action) (cut_by o.cut (plan_of s o.action))
+-- ---- a step that is done
+module _ {s t : System} {o : Step} (valid : Valid s) (r : Made s t o) where
+  pub attempted_so : attempted s o ≡ done t
+  attempted_so = sym (sound_stepped s o valid.sound) ∙ r.done
 
-pub attempted-done : (s : System) → Valid s → (o : Step) → (stepped s o).refusal ≡ 0 → (attempted s o).refusal ≡ 0
-attempted-done s valid o e = grind (arith, sound_stepped)
+  -- what it counts
+  pub made_tally : step_tally s o ≡ plan_tally (taken_off s (scope_of o.action)) (scope_of o.action) (cut_by o.cut (plan_of s o.action))
+  unfolding step_tally tally_if pick
+  made_tally = rw attempted_so
 
--- so: what is so of a step done and its count, and of a refusal that counts nothing, is so of the event
-pub by_event : (P : Tally → System → Type 0) (s : System) → Valid s → (o : Step) → ((stepped s o).refusal ≡ 0 → P (done_tally s o) (stepped s o).system) → P no_tally s
-    → P (event_tally s (does o)) (stepped s o).system
-unfolding happened event_tally step_tally tally_if pick
-by_event P s valid o did refusal = grind (arith, attempted-done, done_or_refused)
-
-pub event_balanced : (s : System) → Valid s → (e : Event) → Balanced s (happened s e).system (event_tally s e)
-unfolding happened no_tally
-event_balanced s valid (does o) =
-    by_event (λ a t. Balanced s t a) s valid o
-    (λ e.
-    subst (λ (x : Outcome). Balanced s x.system (done_tally s o)) (sym (sound_stepped s o valid.sound))
-    (attempt_balanced s valid o (attempted-done s valid o e)))
-    (omega arith)
+  pub step_balanced : Balanced s t (step_tally s o)
+  step_balanced = subst (λ (a : Outcome). Balanced s a.system (step_tally s o)) attempted_so (attempt_balanced s valid o)

@@ -5,7 +5,7 @@ use mathlib.Core.Bool.{true, false}
 use mathlib.Core.List.{List}
 use native.Mathlib.Omega.{arith}
 use borrow.Author.Tests.{lt-ltb}
-use Rattle.view.specs.Logic.{pick, each_up_to, sum_up_to}
+use Rattle.view.specs.Logic.{pick, each_up_to, sum_up_to, one}
 use Rattle.view.specs.View.{has, within, counted_at, count_of}
 use Rattle.view.proofs.Laws.{by_test, true_is_not_false}
 use Rattle.view.proofs.Sets.{has_number, has_inside}
@@ -18,7 +18,7 @@ use Rattle.system.specs.System.{process_at, variables_at, with_process, channel_
 use Rattle.plan.specs.declared.Change.{Change}
 use Rattle.plan.specs.Plan.{changed}
 use Rattle.step.specs.Step.{crashed_at}
-use Rattle.step.specs.Counts.{waiting_from, waiting_towards, waiting_in, one, vanishes_at, vanished}
+use Rattle.events.specs.Counts.{waiting_from, waiting_towards, waiting_in, vanishes_at, vanished}
 use Rattle.step.proofs.Frames.{Shape, Numbered, channels_stay, channel_same, channel_apart}
 use Rattle.step.proofs.Cases.{Effect}
 use Rattle.step.proofs.Carried.{Ready, out, same_crashed, has_room_lem, as_before, elsewhere, towards}
@@ -65,9 +65,9 @@ one_off n s shape q p from to q-high p-high some =
       here,
       pop_fewer (channel_at s q p) some,
       sum-changed n (waiting_from t p) (waiting_from s p) q from.low q-high
-          (λ a h. ap (λ (d : Channel). d.len) (channel_apart s shape q p from to c a p (λ z. h z.0))),
+          (λ a h. ap (λ (d : Channel). d.len) (channel_apart s q p c a p (λ z. h z.0))),
       sum-changed n (towards_up_to n t) (towards_up_to n s) p to.low p-high
-          (λ b h. sum_same n _ _ (λ a l u. ap (λ (d : Channel). d.len) (channel_apart s shape q p from to c a b (λ z. h z.1)))),
+          (λ b h. sum_same n _ _ (λ a l u. ap (λ (d : Channel). d.len) (channel_apart s q p c a b (λ z. h z.1)))),
     )
 
 -- ---- messages go out

@@ -1,7 +1,8 @@
 -- Tallies of longer lists of events, computed. What each is to be is read off document 01's words, not off the program.
 use Rattle.std.specs.Prelude.{◌≡◌, List, [], ◌∷◌}
 use Rattle.tallies.specs.declared.Tally.{Tally}
-use Rattle.step.specs.Tallied.{fresh_tally, r, t, a, x, take_cut, counting}
+use Rattle.events.specs.Counts.{fresh_tally}
+use Rattle.events.specs.Tallied.{r, t, a, x, take_cut, counting}
 
 unfoldable pub worked_tallies : List Tally
 worked_tallies =

@@ -1,31 +1,30 @@
 -- In every system from a fresh one, for q not in p's view, the mark (p, q) is on exactly if at some moment since p's latest suspicion of q
--- began (that moment counted) q's view lacked p. By induction over the events: a report of p begins the suspicion, a report of q without p
+-- began (that moment counted) q's view lacked p. By induction over the moves: a report of p begins the suspicion, a report of q without p
 -- turns the mark on, and nothing else changes the two views or the mark.
 use Prim.Native.Nat.{ℕ, ◌≤◌}
-use mathlib.Core.Path.{◌≡◌, refl, sym, ◌∙◌, ap}
+use mathlib.Core.Path.{◌≡◌, ap}
 use mathlib.Core.Bool.{Bool, true, false, ◌||◌, not}
 use mathlib.Core.List.{List, [], ◌∷◌}
 use native.Mathlib.Omega.{arith}
 use Rattle.view.specs.declared.ProcessId.{ProcessId}
 use Rattle.view.specs.Logic.{pick, is_one_of}
 use Rattle.view.specs.View.{has}
-use Rattle.view.proofs.Laws.{by_pick, one_of}
+use Rattle.view.proofs.Laws.{one_of}
 use Rattle.view.proofs.Sets.{has_number, has_inside, everyone-has}
 use Rattle.system.specs.declared.System.{System}
-use Rattle.system.specs.Outcome.{Outcome}
 use Rattle.system.specs.System.{may_trust}
 use Rattle.system.specs.Fresh.{fresh_variables, fresh_system, fresh_of}
 use Rattle.plan.specs.declared.Cut.{Cut}
 use Rattle.plan.specs.declared.Step.{Step}
 use Rattle.plan.specs.declared.Action.TheVariants.{Report}
-use Rattle.step.specs.Step.{stepped, Event, does, happened, ran}
 use Rattle.step.proofs.Soundness.{Valid, sound_facts}
 use Rattle.step.proofs.Cases.{Known, Doubts, Transition, outline}
-use Rattle.step.proofs.Inversion.{transition, by_outcome}
-use Rattle.step.proofs.SoundSteps.{step_sound, run_valid}
-use Rattle.step.proofs.Outcomes.{unsound_is_1, unsound_stays}
-use Rattle.step.proofs.Beginning.{fresh_variables_lem, fresh_valid}
-use Rattle.trust.specs.Trust.{lacks, moments_after, suspicion, lacked_once, lacked_since, Means, ComesBack}
+use Rattle.step.proofs.Inversion.{transition}
+use Rattle.step.proofs.Beginning.{fresh_variables_lem}
+use Rattle.events.specs.Event.{Event, ran, made, moved, moves_in, grown}
+use Rattle.events.proofs.Moves.{run_leads}
+use Rattle.events.proofs.Runs.{done_sound, any_run, start_shape, shape_kept, run_size}
+use Rattle.trust.specs.Trust.{lacks, earlier, moments, suspicion, lacked_once, lacked_since, Means, ComesBack}
 use Rattle.trust.proofs.Views.{view_at, Views, kept, renewed, views}
 
 -- ---- the walk back over the moments
@@ -81,72 +80,48 @@ one_step : (s t : System) (before : List System) → t.n ≡ s.n → Valid t →
 one_step s t before size valid (kept same trust) was p q kp kq e = grind (arith, unmoved, apart)
 one_step s t before size valid (renewed r v new same d) was p q kp kq e = grind (arith, apart, renewed_first, renewed_second, unmoved)
 
--- a refused step is one moment more
-again : (s : System) (before : List System) → Meant s before → Meant s (s ∷ before)
-again s before was p q kp kq e = was p q kp kq e ∙ sym (since_same p q s s before e refl refl)
+-- ---- from a fresh system of any number
+abbrev start : ℕ → System
+start n = (fresh_of n).system
 
-after_step : (s : System) (before : List System) (o : Step) → Valid s → Meant s before → Meant (stepped s o).system (s ∷ before)
-after_step s before o valid was =
-    by_outcome (λ (a : Outcome). Valid a.system → Meant a.system (s ∷ before)) s o valid
-    (λ t r v. one_step s t before (outline r).effect.size v (views r) was)
-    (λ k n v. again s before was)
-    (step_sound s o valid)
-
--- ---- a list of events
-after_all : (s : System) (before : List System) → Valid s → Meant s before → (es : List Event) (p q : ℕ)
-    → Known (ran s es) p → Known (ran s es) q → lacks (ran s es) p q ≡ true
-    → may_trust (ran s es) p q ≡ lacked_once p q (suspicion p q (moments_after before s es))
-unfolding ran happened moments_after since
-after_all s before valid was [] p q kp kq e = was p q kp kq e
-after_all s before valid was (does o ∷ es) p q kp kq e =
-    after_all (stepped s o).system (s ∷ before) (step_sound s o valid) (after_step s before o valid was) es p q kp kq e
-
--- nobody is suspected in a fresh system
+-- nobody is suspected in it
 fresh_meant : (n : ℕ) → n ≤ 8 → Meant (fresh_system n) []
 unfolding lacks fresh_variables fresh_system
 fresh_meant n small p q kp kq e = grind (arith, fresh_variables_lem, everyone-has)
 
-same_size : (s : System) → Valid s → (es : List Event) → (ran s es).n ≡ s.n
-unfolding ran happened
-same_size s valid [] = refl
-same_size s valid (does o ∷ es) =
-    same_size (stepped s o).system (step_sound s o valid) es
-    ∙ by_outcome (λ (a : Outcome). a.system.n ≡ s.n) s o valid (λ t r. (outline r).effect.size) (λ k n. refl)
+start_meant : (n : ℕ) → Meant (start n) []
+unfolding fresh_of pick
+start_meant n p q kp kq e = grind (arith, fresh_meant, one_of)
 
--- ---- the claim, of a fresh system of 1 to 8
-module _ (n : ℕ) (e : is_one_of 8 n ≡ true) (es : List Event) where
-  known : (k : ℕ) → 1 ≤ k → k ≤ n → Known (ran (fresh_system n) es) k
-  unfolding fresh_system
-  known k low high = grind (arith, same_size, fresh_valid)
+start_small : (n : ℕ) → (start n).n ≤ 8
+unfolding fresh_of fresh_system pick
+start_small n = grind (arith, one_of)
 
-  meant : (p q : ℕ) → 1 ≤ p → p ≤ n → 1 ≤ q → q ≤ n → lacks (ran (fresh_system n) es) p q ≡ true
-      → may_trust (ran (fresh_system n) es) p q ≡ lacked_once p q (suspicion p q (moments_after [] (fresh_system n) es))
-  meant p q a b c d = after_all (fresh_system n) [] (fresh_valid n e) (fresh_meant n (one_of 8 n e).1) es p q (known p a b) (known q c d)
+-- ---- a run
+meant : (n : ℕ) (es : List Event) → Meant (ran (start n) es) (grown earlier [] (start n) (moves_in (start n) es))
+unfolding earlier
+meant n es =
+    any_run earlier Meant (λ s t before o v w r was. one_step s t before (outline r.change).effect.size w (views r.change) was)
+    (start n) [] es (start_shape n) (start_meant n)
 
-  -- a report that is done: p may trust whom it brings back, and both are processes of the system
-  brought_back : {t : System} (p : ProcessId) (v q : ℕ) → Transition (ran (fresh_system n) es) t (Report p v) → lacks (ran (fresh_system n) es) p.0 q ≡ true → has v q ≡ true
-      → lacked_once p.0 q (suspicion p.0 q (moments_after [] (fresh_system n) es)) ≡ true
-  unfolding lacks fresh_system
-  brought_back p v q r gone named = grind (arith, same_size, fresh_valid, has_number, meant, has_inside)
+known : (n : ℕ) (es : List Event) (k : ℕ) → is_one_of (start n).n k ≡ true → Known (ran (start n) es) k
+known n es k e = grind (arith, run_size, start_small, one_of)
 
--- ---- of any number n
 pub meaning : (n : ℕ) (es : List Event) (p q : ℕ) → Means n es p q
-unfolding fresh_of lacked_since fresh_system pick
-meaning n es p q = grind (arith, meant)
+unfolding lacked_since moments since
+meaning n es p q a b = meant n es p q (known n es p a) (known n es q b)
 
--- nothing is done in a system of zero processes, which is not sound
-none_done_lem : (es : List Event) (o : Step) → (stepped (ran (fresh_system 0) es) o).refusal ≡ 0 → ⊥
-unfolding fresh_system
-none_done_lem es o done = grind (arith, sound_facts, unsound_stays, unsound_is_1)
+-- a report that is done: p may trust whom it brings back, and both are processes of the system
+brought_back : {s t : System} (before : List System) (p : ProcessId) (v q : ℕ) → Meant s before → Transition s t (Report p v) → lacks s p.0 q ≡ true → has v q ≡ true
+    → since p.0 q s before ≡ true
+unfolding lacks
+brought_back before p v q was r gone named = grind (arith, has_number, has_inside)
 
 pub comes_back : (n : ℕ) (es : List Event) (p : ProcessId) (v : ℕ) (cut : Cut) (q : ℕ) → ComesBack n es p v cut q
-unfolding fresh_of lacked_since
-comes_back n es p v cut q =
-    by_pick
-    (λ (a : Outcome). (stepped (ran a.system es) (record { action = Report p v; cut = cut })).refusal ≡ 0
-    → lacks (ran a.system es) p.0 q ≡ true
-    → has v q ≡ true
-    → lacked_once p.0 q (suspicion p.0 q (moments_after [] a.system es)) ≡ true)
-    (is_one_of 8 n) _ _
-    (λ e done. brought_back n e es p v q (transition (ran (fresh_system n) es) (record { action = Report p v; cut = cut }) (run_valid (fresh_system n) (fresh_valid n e) es) done))
-    (λ e done. absurd (none_done_lem es _ done))
+unfolding lacked_since moments since moved
+comes_back n es p v cut q done =
+    let s = ran (start n) es in
+    let o : Step = record { action = Report p v; cut = cut } in
+    let shape = shape_kept (start n) s (moves_in (start n) es) (run_leads (start n) es) (start_shape n) in
+    let valid : Valid s = record { shape = shape; sound = done_sound s (made o) done } in
+    brought_back (grown earlier [] (start n) (moves_in (start n) es)) p v q (meant n es) (transition s o valid done)

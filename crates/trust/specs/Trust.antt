@@ -10,16 +10,20 @@ use Rattle.system.specs.System.{variables_at, may_trust}
 use Rattle.system.specs.Fresh.{fresh_of}
 use Rattle.plan.specs.declared.Cut.{Cut}
 use Rattle.plan.specs.declared.Action.TheVariants.{Report}
-use Rattle.step.specs.Step.{stepped, Event, happened, ran}
+use Rattle.step.specs.Step.{stepped}
+use Rattle.events.specs.Event.{Event, ran, Move, moves_in, grown}
 
 -- the local view of process p lacks process q
 unfoldable pub lacks : System → ℕ → ℕ → Bool
 lacks s p q = not (has (variables_at s p).view q)
 
--- the moments of a list of events, latest first: the system after each of them, the one they begin in, and those before
-unfoldable pub moments_after : List System → System → List Event → List System
-moments_after before s [] = s ∷ before
-moments_after before s (e ∷ es) = moments_after (s ∷ before) (happened s e).system es
+-- The moments of a list of events, latest first: the system before each move of it, and the one after the last. An event that is refused is
+-- no moment.
+unfoldable pub earlier : List System → System → Move → List System
+earlier before s m = s ∷ before
+
+unfoldable pub moments : System → List Event → List System
+moments s es = ran s es ∷ grown earlier [] s (moves_in s es)
 
 -- those since p's latest suspicion of q began, that moment counted: back to the moment at which q left p's view
 unfoldable pub suspicion : ℕ → ℕ → List System → List System
@@ -33,7 +37,7 @@ lacked_once p q (s ∷ before) = lacks s q p || lacked_once p q before
 
 -- since p's latest suspicion of q, in a list of events from a fresh system of n
 unfoldable pub lacked_since : ℕ → List Event → ℕ → ℕ → Bool
-lacked_since n es p q = lacked_once p q (suspicion p q (moments_after [] (fresh_of n).system es))
+lacked_since n es p q = lacked_once p q (suspicion p q (moments (fresh_of n).system es))
 
 -- The claim: the mark of two processes, of which the first suspects the second, is just that. A request for n outside 1 to 8 gives zero
 -- processes.

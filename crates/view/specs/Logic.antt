@@ -11,6 +11,10 @@ pick false a b = b
 abbrev pub unless : {A : Type 0} → Bool → A → A → A
 unless test a b = pick test b a
 
+-- 1 where the test holds, else 0
+unfoldable pub one : Bool → ℕ
+one test = pick test 1 0
+
 -- the test holds of each of 1 to n
 unfoldable pub all_up_to : ℕ → (ℕ → Bool) → Bool
 all_up_to zero f = true

@@ -1,7 +1,7 @@
 -- `counting::vanished`: each of the eight counts 1 at most.
 use borrow.Author.Rules.{rules}
 use Rattle.std.proofs.Common.{arith}
-use Rattle.step.specs.Counts.{vanishes_at, vanished}
+use Rattle.events.specs.Counts.{vanishes_at, vanished}
 use Rattle.image.specs.Image.{system_in}
 use Rattle.view.proofs.Chains.{sum_told, sum_fits}
 use Rattle.counting.proofs.Counting.{few_vanish}

@@ -4,7 +4,7 @@ use Rattle.std.proofs.Common.{◌∙◌, ap, arith}
 use Rattle.view.specs.Logic.{pick, sum_up_to}
 use Rattle.view.proofs.Chains.{sum_told, sum_fits}
 use Rattle.step.specs.Step.{taken_off}
-use Rattle.step.specs.Counts.{waiting_towards, waiting_in}
+use Rattle.events.specs.Counts.{waiting_towards, waiting_in}
 use Rattle.image.specs.Image.{system_in}
 use Rattle.counting.proofs.Counting.{few_in}
 use Rattle.counting.proofs.waiting_in.Goals as goal

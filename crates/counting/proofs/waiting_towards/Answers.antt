@@ -4,9 +4,10 @@ use Rattle.std.proofs.Common.{◌∙◌, ap, arith}
 use Rattle.view.specs.Logic.{sum_up_to}
 use Rattle.view.proofs.Chains.{sum_told, sum_fits}
 use Rattle.step.specs.Step.{taken_off}
-use Rattle.step.specs.Counts.{waiting_from, waiting_towards}
+use Rattle.events.specs.Counts.{waiting_from, waiting_towards}
 use Rattle.image.specs.Image.{system_in}
-use Rattle.counting.proofs.Counting.{few_towards, taken_size}
+use Rattle.step.proofs.TakenOff.{taken_size}
+use Rattle.counting.proofs.Counting.{few_towards}
 use Rattle.counting.proofs.waiting_towards.Goals as goal
 
 pub sum-requires-clause-fits : goal.sum-requires-clause-fits

@@ -1,5 +1,5 @@
 -- `engine::do_crash`: by the guard, and by the cut.
-use Rattle.step.specs.Scope.{scope_of}
+use Rattle.plan.specs.Scope.{scope_of}
 use Rattle.engine.proofs.Given.{turned_away}
 use Rattle.engine.proofs.do_crash.Goals as goal
 

@@ -8,7 +8,7 @@ use Rattle.plan.specs.declared.Action.TheVariants.{Receive}
 use Rattle.plan.specs.declared.ReceiveChoice.{ReceiveChoice}
 use Rattle.plan.specs.Choice.{received_plan}
 use Rattle.plan.specs.Plan.{Planned}
-use Rattle.step.specs.Scope.{taking, scope_of}
+use Rattle.plan.specs.Scope.{taking, scope_of}
 use Rattle.image.specs.Image.{system_in}
 use Rattle.alternatives.specs.Gives.{Gives, carried}
 use Rattle.engine.specs.Engine.{Attempts}

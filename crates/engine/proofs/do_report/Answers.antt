@@ -1,5 +1,5 @@
 -- `engine::do_report`: by the guard, and by what is chosen.
-use Rattle.step.specs.Scope.{scope_of}
+use Rattle.plan.specs.Scope.{scope_of}
 use Rattle.plan.specs.Choice.{reported_plan}
 use Rattle.engine.proofs.Given.{turned_away}
 use Rattle.engine.proofs.Chosen.{report_refused, reported, proposed}

@@ -1,5 +1,5 @@
 -- `engine::do_respond`: by the guard, and by what is chosen.
-use Rattle.step.specs.Scope.{scope_of}
+use Rattle.plan.specs.Scope.{scope_of}
 use Rattle.plan.specs.Choice.{responded_plan}
 use Rattle.engine.proofs.Given.{turned_away}
 use Rattle.engine.proofs.Chosen.{respond_refused, responded}

@@ -1,7 +1,7 @@
 -- `membership::settle`: the settling run, between encoding and decoding.
 use Rattle.codec.proofs.Lengths.{value_lengths}
 use Rattle.membership.proofs.Between.{settled_between, unsettled_between}
-use Rattle.settle.specs.Settle.{settled_of}
+use Rattle.settle.specs.Settles.{settled_of}
 use Rattle.membership.proofs.settle.Goals as goal
 
 pub returns-in-Ok : goal.returns-in-Ok

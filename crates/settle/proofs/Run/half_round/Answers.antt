@@ -1,7 +1,7 @@
 -- `Run::half_round`: before process p has its turn, those before it have had theirs.
 use Rattle.std.proofs.Common.{arith}
 use Rattle.view.specs.Logic.{each_up_to}
-use Rattle.settle.specs.Settle.{tried_at, half_done}
+use Rattle.settling.specs.Settle.{tried_at, half_done}
 use Rattle.settle.proofs.Laws.{no_advance, as_begun, advance_next, advance_last, advance_done}
 use Rattle.settle.proofs.Run.half_round.Goals as goal
 

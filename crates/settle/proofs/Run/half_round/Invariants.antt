@@ -1,7 +1,7 @@
 -- `Run::half_round`: before process p has its turn, those before it have had theirs.
 use Rattle.std.proofs.Common.{◌+◌, ◌-◌, ◌≤◌}
 use Rattle.view.specs.Logic.{each_up_to}
-use Rattle.settle.specs.Settle.{tried_at}
+use Rattle.settling.specs.Settle.{tried_at}
 use Rattle.settle.specs.Advances.{Advances}
 use Rattle.settle.proofs.Run.half_round.Given as goal
 

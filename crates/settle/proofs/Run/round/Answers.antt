@@ -1,6 +1,6 @@
 -- `Run::round`: the one half and then the other.
-use Rattle.settle.specs.declared.Half.TheVariants.{Answers}
-use Rattle.settle.specs.Settle.{half_done, round_done}
+use Rattle.settling.specs.declared.Half.TheVariants.{Answers}
+use Rattle.settling.specs.Settle.{half_done, round_done}
 use Rattle.settle.proofs.Laws.{as_begun, advance_then}
 use Rattle.settle.proofs.Run.round.Goals as goal
 

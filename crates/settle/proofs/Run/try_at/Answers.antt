@@ -1,7 +1,7 @@
 -- `Run::try_at`: before process q has its turn, those before it have been tried with p.
 use Rattle.std.proofs.Common.{arith}
 use Rattle.view.specs.Logic.{each_up_to}
-use Rattle.settle.specs.Settle.{tried, move_of, tried_with, tried_at}
+use Rattle.settling.specs.Settle.{tried, move_of, tried_with, tried_at}
 use Rattle.settle.proofs.Laws.{no_advance, as_begun, advance_next, advance_last, advance_done}
 use Rattle.settle.proofs.Run.try_at.Goals as goal
 

@@ -1,7 +1,7 @@
 -- `Run::try_at`: before process q has its turn, those before it have been tried with p.
 use Rattle.std.proofs.Common.{◌+◌, ◌-◌, ◌≤◌}
 use Rattle.view.specs.Logic.{each_up_to}
-use Rattle.settle.specs.Settle.{tried_with}
+use Rattle.settling.specs.Settle.{tried_with}
 use Rattle.settle.specs.Advances.{Advances}
 use Rattle.settle.proofs.Run.try_at.Given as goal
 

@@ -1,8 +1,9 @@
 -- `Machine::settle`: the numbers of the run, and how it ended.
 use Rattle.std.proofs.Common.{rules, ap}
 use Rattle.tallies.specs.Tally.{no_tally}
-use Rattle.settle.specs.Settle.{Settled, tally_in}
-use Rattle.settle.specs.Settle.{settled_as as answer_of}
+use Rattle.settling.specs.Settle.{Settled}
+use Rattle.settle.specs.Settles.{tally_in}
+use Rattle.settle.specs.Settles.{settled_as as answer_of}
 use Rattle.print.proofs.Typing.{typed_in_turn}
 use Rattle.run.specs.Output.{settled_as, line_done}
 use Rattle.run.proofs.lines.Machine.settle.Goals as goal

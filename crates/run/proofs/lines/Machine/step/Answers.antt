@@ -2,7 +2,7 @@
 use Rattle.std.proofs.Common.{sym, ◌∙◌}
 use Rattle.view.proofs.Laws.{true_is_not_false}
 use Rattle.tallies.specs.Tally.{no_tally}
-use Rattle.counting.proofs.Counting.{event_counts}
+use Rattle.counting.proofs.Counting.{sound_counts}
 use Rattle.run.proofs.Laws.{nothing_yet}
 use Rattle.run.specs.Output.{answered, line_done}
 use Rattle.run.proofs.lines.Machine.step.Goals as goal
@@ -15,7 +15,7 @@ returns-in-Ok c =
     record {
       text = rw (← done, c.in-Ok.is) c.numbered.ensures;
       system = rw (← done);
-      tally = λ on. rw c.in-Ok.is at c.attempt_tallied.ensures.tally ∙ event_counts _ _ sound;
+      tally = λ on. rw c.in-Ok.is at c.attempt_tallied.ensures.tally ∙ sound_counts _ _ sound;
     }
 
 pub returns-in-Err : goal.returns-in-Err
@@ -26,7 +26,7 @@ returns-in-Err c =
     record {
       text = rw (← done, c.in-Err.is, ← c.from.ensures) c.numbered-in-Err.ensures;
       system = rw (← done);
-      tally = λ on. nothing_yet c.default.result c.default.ensures ∙ rw c.in-Err.is at c.attempt_tallied.ensures.tally ∙ event_counts _ _ sound;
+      tally = λ on. nothing_yet c.default.result c.default.ensures ∙ rw c.in-Err.is at c.attempt_tallied.ensures.tally ∙ sound_counts _ _ sound;
     }
 
 pub returns-else-counting : goal.returns-else-counting

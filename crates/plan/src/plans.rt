@@ -1,25 +1,25 @@
 // The plan of a step, by value: the definitions' own form of what an alternative does, for whoever asks
-// what a step would do. The engine makes the same choices and does them at once: with a plan between, a list of steps takes
+// what a step would do, or does it elsewhere than on an image. The engine makes the same choices and does them at once: with a plan between, a list of steps takes
 // twice the instructions (docs/DECISIONS.md). What goes to nobody is the blank message, as in the definitions.
 ghost use Rattle.std.specs.Prelude.{ℕ, ◌≡◌, Ok};
 ghost use Rattle.view.specs.View.{minus, everyone};
-ghost use Rattle.plan.specs.Plan.{assigning, recording, entering, sending, quietly, doubting, report_plan, receive_plan, respond_plan, crash_plan};
+ghost use Rattle.plan.specs.Plan.{assigning, recording, entering, sending, quietly, doubting, report_plan, receive_plan, respond_plan, crash_plan, plan_from};
 ghost use Rattle.plan.specs.Choice.{reported_plan, report_fits};
 ghost use Rattle.plan.specs.Cut.{cut_by};
-ghost use Rattle.step.specs.Scope.{scope_of};
-ghost use Rattle.counting.specs.Plans.{planned, planned_of};
+ghost use Rattle.plan.specs.Scope.{scope_of};
+ghost use Rattle.plan.specs.ByValue.{planned, planned_of};
 
-use channel::Message;
-use plan::{
+use crate::{
     Action, Change, Cut, Plan, ReceiveChoice, ReportChoice, Scope, after, proposing, reach_of,
     receive_choice, report_choice, reproposing, respond_choice, with_acks, with_next, with_view,
 };
+use channel::Message;
 use system::refusal::Refusal;
 use system::{Proposal, Variables};
 use view::{GroupIndex, ProcessId, everyone, minus, with};
 
 // Whom an action names. A match, as in `attempt` of the engine.
-#[tactic(auto, unfolding(step::specs::Scope::scope_of))]
+#[tactic(auto, unfolding(crate::specs::Scope::scope_of))]
 pub fn scope_of(o: Action) -> Scope
     ensures { result ≡ scope_of o }
 {
@@ -86,7 +86,7 @@ fn quietly(change: Change) -> Plan
 }
 
 // The plan of a report that is permitted, but for whom the process suspects.
-#[tactic(auto, unfolding(plan::specs::Choice::reported_plan, view::specs::Logic::pick))]
+#[tactic(auto, unfolding(crate::specs::Choice::reported_plan, view::specs::Logic::pick))]
 fn reported(view: u8, x: Variables, choice: ReportChoice) -> Plan
     requires { report_fits x choice }
     ensures { (n : ℕ) → doubting (minus (everyone n) view) (planned result) ≡ reported_plan n view x (Ok choice) }
@@ -105,7 +105,7 @@ fn reported(view: u8, x: Variables, choice: ReportChoice) -> Plan
 }
 
 // The plan of a report: the process suspects those whom its view lacks.
-#[tactic(auto, unfolding(plan::specs::Choice::reported_plan))]
+#[tactic(auto, unfolding(crate::specs::Choice::reported_plan))]
 pub fn report_plan(n: u8, p: ProcessId, view: u8, x: Variables, trust: u8) -> Result<Plan, Refusal>
     ensures { planned_of x result ≡ report_plan n p.0 view x trust }
 {
@@ -117,7 +117,7 @@ pub fn report_plan(n: u8, p: ProcessId, view: u8, x: Variables, trust: u8) -> Re
 }
 
 // The plan of a process that takes a message, if one waits.
-#[tactic(auto, unfolding(plan::specs::Choice::received_plan))]
+#[tactic(auto, unfolding(crate::specs::Choice::received_plan))]
 pub fn receive_plan(
     q: ProcessId,
     p: ProcessId,
@@ -150,7 +150,7 @@ pub fn receive_plan(
 }
 
 // The plan of an answer to process q.
-#[tactic(auto, unfolding(plan::specs::Choice::responded_plan))]
+#[tactic(auto, unfolding(crate::specs::Choice::responded_plan))]
 pub fn respond_plan(q: ProcessId, x: Variables, pending: Option<Proposal>) -> Result<Plan, Refusal>
     ensures { planned_of x result ≡ respond_plan q x pending }
 {
@@ -172,8 +172,29 @@ pub fn crash_plan(x: Variables) -> Plan
     }
 }
 
+// The plan of an action, not cut, from what it is told of: how many processes there are, the acting
+// one's variables, whom that may trust again, the oldest message from the partner, and what it has
+// recorded from it.
+pub fn plan_from(
+    n: u8,
+    o: Action,
+    x: Variables,
+    trust: u8,
+    front: Option<Message>,
+    pending: Option<Proposal>,
+) -> Result<Plan, Refusal>
+    ensures { planned_of x result ≡ plan_from n o x trust front pending }
+{
+    match o {
+        Action::Report(p, view) => report_plan(n, p, view, x, trust),
+        Action::Receive(q, p) => receive_plan(q, p, x, front),
+        Action::Respond(_, q) => respond_plan(q, x, pending),
+        Action::Crash(_) => Ok(crash_plan(x)),
+    }
+}
+
 // The plan of a step, whose action has this plan: whole, or cut after its first messages.
-#[tactic(auto, unfolding(plan::specs::Cut::cut_by, plan::specs::Cut::cut_short, plan::specs::Cut::reach_of, view::specs::Logic::pick))]
+#[tactic(auto, unfolding(crate::specs::Cut::cut_by, crate::specs::Cut::reach_of, view::specs::Logic::pick))]
 pub fn cut_by(cut: Cut, a: Plan) -> Result<Plan, Refusal>
     ensures { planned_of a.change.variables result ≡ cut_by cut (planned a) }
 {

@@ -1,46 +1,42 @@
 -- S-4. "Add a settling run: in rounds, one take tried on every line by rising receiver then sender, then one answer tried for every unit
 -- and addressee, rising in that order, refused ones passed over, until a whole round does nothing. It returns the table, the steps done,
 -- and at rest, held up or budget."
-use Rattle.std.specs.Prelude.{ℕ, zero, suc, ◌≡◌, Bool, true, ◌&&◌, ◌||◌, not, List, Result, Ok, Err, eqb, ltb}
+use Rattle.std.specs.Prelude.{ℕ, zero, suc, Bool, ◌&&◌, ◌||◌, not, List, [], ◌∷◌, ◌++◌, eqb, ltb}
 use Rattle.view.specs.declared.ProcessId.{ProcessId}
 use Rattle.view.specs.Logic.{pick, unless, all_up_to, each_up_to}
 use Rattle.tallies.specs.declared.Tally.{Tally}
 use Rattle.tallies.specs.Tally.{no_tally, plus, capped}
 use Rattle.system.specs.declared.System.{System}
-use Rattle.system.specs.declared.Refused.{Refused}
-use Rattle.system.specs.declared.refusal.Refusal.{Refusal}
-use Rattle.system.specs.Refusal.{number}
 use Rattle.system.specs.Outcome.{Outcome}
 use Rattle.sound.specs.Sound.{sound_system}
 use Rattle.plan.specs.declared.Action.{Action}
 use Rattle.plan.specs.declared.Action.TheVariants.{Receive, Respond}
+use Rattle.plan.specs.declared.Step.{Step}
 use Rattle.plan.specs.Cut.{whole}
 use Rattle.step.specs.Step.{stepped}
-use Rattle.step.specs.Counts.{step_tally}
+use Rattle.events.specs.Counts.{step_tally}
 use Rattle.step.specs.Rest.{at_rest}
-use Rattle.image.specs.Image.{system_in}
-use Rattle.settle.specs.declared.Settling.{Settling}
-use Rattle.settle.specs.declared.SettledSystem.{SettledSystem}
-use Rattle.settle.specs.declared.Half.{Half}
-use Rattle.settle.specs.declared.Half.TheVariants.{Takes, Answers}
-use Rattle.settle.specs.declared.Ending.{Ending}
-use Rattle.settle.specs.declared.Ending.TheVariants.{Rest, Held, Budget}
+use Rattle.settling.specs.declared.Half.{Half}
+use Rattle.settling.specs.declared.Half.TheVariants.{Takes, Answers}
+use Rattle.settling.specs.declared.Ending.{Ending}
+use Rattle.settling.specs.declared.Ending.TheVariants.{Rest, Held, Budget}
 
--- a system on its way to rest, the steps done so far, and what they count (S-7)
+-- a system on its way to rest; the steps done so far, their number and what they count (S-7)
 pub record Progress : Type 0 where
   pub system : System
   pub steps : ℕ
   pub tally : Tally
+  pub log : List Step
 
 -- a step that is done counts; "refused ones passed over"
-unfoldable pub passing : Progress → Tally → Outcome → Progress
-passing x t a =
-    pick (eqb a.refusal 0) (record { system = a.system; steps = suc x.steps; tally = capped (plus x.tally t) }) x
+unfoldable pub passing : Progress → Step → Tally → Outcome → Progress
+passing x o t a =
+    pick (eqb a.refusal 0) (record { system = a.system; steps = suc x.steps; tally = capped (plus x.tally t); log = x.log ++ o ∷ [] }) x
 
 -- one take or answer is tried, unless the budget is used up
 unfoldable pub tried : ℕ → Action → Progress → Progress
 tried budget o x =
-    pick (ltb x.steps budget) (passing x (step_tally x.system (whole o)) (stepped x.system (whole o))) x
+    pick (ltb x.steps budget) (passing x (whole o) (step_tally x.system (whole o)) (stepped x.system (whole o))) x
 
 abbrev process : ℕ → ProcessId
 process k = record { 0 = k }
@@ -90,6 +86,10 @@ nothing_to_do s = none_done s.n s Takes && none_done s.n s Answers
 unfoldable pub ending_of : ℕ → Progress → Ending
 ending_of budget x = unless (ltb x.steps budget || nothing_to_do x.system) Budget (pick (at_rest x.system) Rest Held)
 
+-- "The budget"
+abbrev pub settling_budget : ℕ
+settling_budget = 7936
+
 -- what a run answers, and the system after it
 pub record Settled : Type 0 where
   pub refusal : ℕ
@@ -102,7 +102,7 @@ ended_with budget x = record { refusal = 0; steps = x.steps; ending = ending_of 
 
 -- before the first step
 abbrev pub outset : System → Progress
-outset s = record { system = s; steps = 0; tally = no_tally }
+outset s = record { system = s; steps = 0; tally = no_tally; log = [] }
 
 -- the whole run
 abbrev pub settled_from : ℕ → System → Progress
@@ -118,26 +118,6 @@ settled budget s =
 unfoldable pub settled_tally : ℕ → System → Tally
 settled_tally budget s = unless (sound_system s) no_tally (settled_from budget s).tally
 
--- ---- what is promised of the program
--- what a run answers, and the system after it
-unfoldable pub settled_as : Result Settling Refusal → System → Settled
-settled_as (Ok r) s = record { refusal = 0; steps = r.steps; ending = r.ending; system = s }
-settled_as (Err k) s = record { refusal = number k; steps = 0; ending = Held; system = s }
-
--- what it counts
-unfoldable pub tally_in : Result Settling Refusal → Tally
-tally_in (Ok r) = r.tally
-tally_in (Err k) = no_tally
-
--- bytes b become bytes c and r is answered: that is the run with its budget; where no step was done every byte is as it was, and a sound
--- system stays one
-pub record Settles (budget : ℕ) (b : List ℕ) (r : Result Settling Refusal) (c : List ℕ) : Type 0 where
-  pub outcome : settled_as r (system_in c) ≡ settled budget (system_in b)
-  pub tally : tally_in r ≡ settled_tally budget (system_in b)
-  pub kept : (settled_as r (system_in c)).steps ≡ 0 → c ≡ b
-  pub stays : sound_system (system_in b) ≡ true → sound_system (system_in c) ≡ true
-
--- the same by value
-unfoldable pub settled_of : Result SettledSystem Refused → Settled
-settled_of (Ok r) = record { refusal = 0; steps = r.steps; ending = r.ending; system = r.system }
-settled_of (Err e) = record { refusal = number e.refusal; steps = 0; ending = Held; system = e.system }
+-- its own steps, in turn; none, where it is refused
+unfoldable pub settled_log : ℕ → System → List Step
+settled_log budget s = unless (sound_system s) [] (settled_from budget s).log

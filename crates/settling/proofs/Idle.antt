@@ -1,12 +1,11 @@
 -- A round that does nothing finds nothing to do, and where there is nothing to do it does nothing.
 use Prim.Native.Nat.{ℕ, zero, suc, ◌+◌, ◌≤◌, ◌<◌}
-use mathlib.Core.Path.{◌≡◌, refl, sym, ◌∙◌, ap, subst}
+use mathlib.Core.Path.{◌≡◌, refl, sym, ◌∙◌, ap}
 use mathlib.Core.Bool.{Bool, true, false, ◌&&◌, not}
-use mathlib.Core.List.{List}
+use mathlib.Core.List.{[], ◌∷◌, ◌++◌}
 use native.Mathlib.Omega.{arith}
-use borrow.Author.Tests.{ltb-true, ltb-false, eqb-true, eq-eqb, ne_eqb, eqb-false, lt-ltb}
+use borrow.Author.Tests.{ltb-true, ltb-false, eqb-true, eqb-false, lt-ltb}
 use lib.Dec.{eqb, ltb}
-use Rattle.std.specs.Borrow.{MutBor}
 use Rattle.view.specs.Logic.{pick, all_up_to, each_up_to}
 use Rattle.view.proofs.Laws.{by_pick, by_test, and_left, and_right, and_intro, true_is_not_false}
 use Rattle.tallies.specs.Tally.{plus, capped}
@@ -14,14 +13,11 @@ use Rattle.system.specs.declared.System.{System}
 use Rattle.plan.specs.declared.Action.{Action}
 use Rattle.plan.specs.Cut.{whole}
 use Rattle.step.specs.Step.{stepped}
-use Rattle.step.specs.Counts.{step_tally}
-use Rattle.image.specs.Image.{system_in}
-use Rattle.settle.specs.declared.Run.{Run}
-use Rattle.settle.specs.declared.Half.{Half}
-use Rattle.settle.specs.declared.Half.TheVariants.{Takes, Answers}
-use Rattle.settle.specs.Settle.{Progress, passing, tried, move_of, tried_with, tried_at, half_done, round_done, unless_idle, rounds_done, refused_at, all_refused_at, none_done, nothing_to_do}
-use Rattle.settle.specs.Advances.{progress_of, Advances, Begins}
-use Rattle.settle.proofs.Within.{round_within}
+use Rattle.events.specs.Counts.{step_tally}
+use Rattle.settling.specs.declared.Half.{Half}
+use Rattle.settling.specs.declared.Half.TheVariants.{Takes, Answers}
+use Rattle.settling.specs.Settle.{Progress, passing, tried, move_of, tried_with, tried_at, half_done, round_done, unless_idle, rounds_done, refused_at, all_refused_at, none_done}
+use Rattle.settling.proofs.Within.{round_within}
 
 -- f makes progress just where the test fails of the system
 pub record Looks (budget : ℕ) (f : Progress → Progress) (quiet : System → Bool) : Type 0 where
@@ -60,7 +56,7 @@ looks_tried budget o =
     }
   where
     after : Bool → Bool → Progress → Progress
-    after below done x = pick below (pick done (record { system = (stepped x.system (whole o)).system; steps = suc x.steps; tally = capped (plus x.tally (step_tally x.system (whole o))) }) x) x
+    after below done x = pick below (pick done (record { system = (stepped x.system (whole o)).system; steps = suc x.steps; tally = capped (plus x.tally (step_tally x.system (whole o))); log = x.log ++ whole o ∷ [] }) x) x
 
     rise : (below done : Bool) (x : Progress) → x.steps ≤ (after below done x).steps
     rise true true x = omega arith
@@ -88,27 +84,6 @@ pub looks_round : (budget n : ℕ) → Looks budget (round_done budget n) (λ s.
 unfolding round_done
 looks_round budget n =
     looks_then budget (half_done budget Takes n) (half_done budget Answers n) (λ s. none_done n s Takes) (λ s. none_done n s Answers) (looks_half budget n Takes) (looks_half budget n Answers)
-
--- a round of at most one step, on a copy, tells whether there is one to do
-pub round_tells : (b : List ℕ) (image : MutBor (List ℕ)) (x y : Run) → image.now ≡ b → Begins 1 image x → Advances (round_done x.budget x.n) x y
-    → eqb y.steps 0 ≡ nothing_to_do (system_in b)
-unfolding nothing_to_do
-round_tells b image x y same new round =
-    subst (λ (l : List ℕ). eqb y.steps 0 ≡ (none_done (system_in l).n (system_in l) Takes && none_done (system_in l).n (system_in l) Answers)) (new.bytes ∙ same)
-    (told (none_done x.n (system_in x.image.now) Takes && none_done x.n (system_in x.image.now) Answers) refl
-    ∙ ap (λ (k : ℕ). none_done k (system_in x.image.now) Takes && none_done k (system_in x.image.now) Answers) sized)
-  where
-    sized : x.n ≡ (system_in x.image.now).n
-    sized = new.size ∙ ap (λ (l : List ℕ). (system_in l).n) (sym new.bytes)
-
-    is : y.steps ≡ (round_done 1 x.n (progress_of x)).steps
-    is = ap (λ (p : Progress). p.steps) round.reached ∙ ap (λ (k : ℕ). (round_done k x.n (progress_of x)).steps) new.budget_is
-
-    told : (t : Bool) → (none_done x.n (system_in x.image.now) Takes && none_done x.n (system_in x.image.now) Answers) ≡ t → eqb y.steps 0 ≡ t
-    told true e = eq-eqb y.steps 0 (is ∙ ap (λ (p : Progress). p.steps) ((looks_round 1 x.n).still (progress_of x) e) ∙ new.steps)
-    told false e =
-        ne_eqb y.steps 0
-        (λ none. true_is_not_false (sym ((looks_round 1 x.n).idle (progress_of x) (omega (arith, new.steps)) (sym is ∙ none ∙ sym new.steps)).0 ∙ e))
 
 idle_again : (budget n : ℕ) (x : Progress) → x.steps ≤ budget → (round_done budget n x).steps ≡ x.steps
     → (round_done budget n (round_done budget n x)).steps ≡ (round_done budget n x).steps

@@ -4,13 +4,8 @@ use Rattle.view.specs.declared.ProcessId.{ProcessId}
 use Rattle.tallies.specs.declared.Tally.{Tally}
 use Rattle.plan.specs.declared.Action.TheVariants.{Report, Receive, Respond, Crash}
 use Rattle.plan.specs.Cut.{whole, cut_after}
-use Rattle.system.specs.Fresh.{fresh_of}
-use Rattle.step.specs.Step.{Event, does}
-use Rattle.step.specs.Counts.{tally_of}
-
--- the tally of a list of events from a fresh system of n. A request for n outside 1 to 8 gives zero processes
-unfoldable pub fresh_tally : ℕ → List Event → Tally
-fresh_tally n es = tally_of (fresh_of n).system es
+use Rattle.events.specs.Event.{Event, does}
+use Rattle.events.specs.Counts.{fresh_tally}
 
 -- ---- the lines of a sheet
 abbrev process : ℕ → ProcessId

@@ -9,9 +9,9 @@ use Rattle.sound.specs.Sound.{sound_system}
 use Rattle.plan.specs.declared.Action.{Action}
 use Rattle.plan.specs.Cut.{whole}
 use Rattle.step.specs.Step.{stepped}
-use Rattle.settle.specs.declared.Half.{Half}
-use Rattle.settle.specs.declared.Half.TheVariants.{Takes, Answers}
-use Rattle.settle.specs.Settle.{Settled, Progress, passing, tried, move_of, tried_with, tried_at, half_done, round_done, unless_idle, rounds_done, ended_with, settled}
+use Rattle.settling.specs.declared.Half.{Half}
+use Rattle.settling.specs.declared.Half.TheVariants.{Takes, Answers}
+use Rattle.settling.specs.Settle.{Settled, Progress, passing, tried, move_of, tried_with, tried_at, half_done, round_done, unless_idle, rounds_done, ended_with, settled}
 
 abbrev Within : ℕ → Progress → Type 0
 Within budget x = x.steps ≤ budget

@@ -1,6 +1,6 @@
 -- S-7: what a step, and a list of events, sends, takes and loses. "Each count is defined from the steps done".
-use Rattle.std.specs.Prelude.{ℕ, ◌+◌, Bool, true, false, ◌&&◌, not, List, [], ◌∷◌, eqb, ltb}
-use Rattle.view.specs.Logic.{pick, sum_up_to}
+use Rattle.std.specs.Prelude.{ℕ, ◌+◌, Bool, true, false, ◌&&◌, not, List, eqb, ltb}
+use Rattle.view.specs.Logic.{pick, one, sum_up_to}
 use Rattle.view.specs.View.{has, count_of}
 use Rattle.tallies.specs.declared.Tally.{Tally}
 use Rattle.tallies.specs.Tally.{no_tally, plus}
@@ -8,12 +8,14 @@ use Rattle.channel.specs.declared.Message.{Message}
 use Rattle.channel.specs.declared.Message.TheVariants.{Propose, Retry, Acc, Commit}
 use Rattle.system.specs.declared.System.{System}
 use Rattle.system.specs.System.{variables_at, channel_at}
+use Rattle.system.specs.Fresh.{fresh_of}
 use Rattle.plan.specs.declared.Scope.{Scope}
 use Rattle.plan.specs.declared.Step.{Step}
-use Rattle.step.specs.Scope.{scope_of}
+use Rattle.plan.specs.Scope.{scope_of}
 use Rattle.plan.specs.Cut.{cut_by}
 use Rattle.plan.specs.Plan.{Planned}
-use Rattle.step.specs.Step.{plan_of, taken_off, attempted, Event, does, happened, ran}
+use Rattle.step.specs.Step.{plan_of, taken_off, attempted, stepped}
+use Rattle.events.specs.Event.{Event, ran, Move, made, moves_in, grown}
 
 -- ---- messages that wait
 -- those on the channel from process q to process p
@@ -29,9 +31,6 @@ unfoldable pub waiting_in : System → ℕ
 waiting_in s = sum_up_to s.n (waiting_towards s)
 
 -- ---- one step
-unfoldable pub one : Bool → ℕ
-one test = pick test 1 0
-
 -- process k is an addressee, and has stopped
 unfoldable pub vanishes_at : System → ℕ → ℕ → ℕ
 vanishes_at s to k = one (has to k && (variables_at s k).crashed)
@@ -76,18 +75,28 @@ unfoldable pub step_tally : System → Step → Tally
 step_tally s o =
     tally_if (attempted s o).refusal (plan_tally (taken_off s (scope_of o.action)) (scope_of o.action) (cut_by o.cut (plan_of s o.action)))
 
--- ---- a list of events
--- of what happens, where the outcome says that it is done and not refused
-unfoldable pub event_tally : System → Event → Tally
-event_tally s (does o) = tally_if (happened s (does o)).refusal (step_tally s o)
+-- on any system, sound or not
+unfoldable pub done_tally : System → Step → Tally
+done_tally s o = tally_if (stepped s o).refusal (step_tally s o)
 
-unfoldable pub events_tally : System → List Event → Tally
-events_tally s [] = no_tally
-events_tally s (e ∷ es) = plus (event_tally s e) (events_tally (happened s e).system es)
-
+-- ---- in the end
 unfoldable pub still_waiting : System → Tally
 still_waiting s = record { sent = 0; taken = 0; waiting = waiting_in s; lost = 0; proposals = 0; committed = 0 }
+
+-- ---- a list of events
+unfoldable pub move_tally : System → Move → Tally
+move_tally s (made o) = step_tally s o
+
+unfoldable pub tally_then : Tally → System → Move → Tally
+tally_then a s m = plus a (move_tally s m)
+
+unfoldable pub events_tally : System → List Event → Tally
+events_tally s es = grown tally_then no_tally s (moves_in s es)
 
 -- the tally of a list of events: what they count, and what waits in the end
 unfoldable pub tally_of : System → List Event → Tally
 tally_of s es = plus (events_tally s es) (still_waiting (ran s es))
+
+-- from a fresh system of n. A request for n outside 1 to 8 gives zero processes
+unfoldable pub fresh_tally : ℕ → List Event → Tally
+fresh_tally n es = tally_of (fresh_of n).system es

@@ -1,0 +1,4 @@
+-- Laws of a settling run.
+pub mod Within
+pub mod Idle
+pub mod Steps

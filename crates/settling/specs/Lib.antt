@@ -1,0 +1,3 @@
+-- What a settling run is.
+pub mod Settle
+pub mod Steps
