@@ -14,7 +14,7 @@ use Rattle.system.specs.Fresh.{fresh_variables, fresh_process, fresh_system}
 use Rattle.step.proofs.Beginning.{each_fresh, fresh_variables_lem}
 use Rattle.agreement.specs.Accepted.{accepted}
 use Rattle.agreement.proofs.Beginning.{fresh_proposal}
-use Rattle.quiet.proofs.Views.{everyone_least}
+use Rattle.view.proofs.Members.{everyone_least}
 use Rattle.quiet.proofs.Opening.{Opened, opening, opened_facts, fresh_opened}
 use Rattle.quiet.proofs.Proposals.{fresh_proposals}
 use Rattle.quiet.proofs.Standing.{Untouched, Standing}

@@ -21,7 +21,7 @@ use Rattle.events.specs.Event.{happened, ran}
 use Rattle.settling.specs.Settle.{passing, tried, move_of, tried_with, tried_at, half_done, round_done, unless_idle, rounds_done, refused_at, all_refused_at, none_done, nothing_to_do, ending_of, ended_with, settled, settling_budget}
 use Rattle.agreement.specs.Demand.{start}
 use Rattle.quiet.specs.Quiet.{last_up_to, last_non_empty, local_if_named, is_common, Final}
-use Rattle.quiet.specs.Examples.{none_waits_at, none_waits, last_view, Seen, seen, SettledSeen, settled_seen, example66, Example66, one_cut, OneCut, NoReport, unanswered, MessageWaits, Unanswered, apart_from1, OtherView, OtherProcess, stopped_before, Stopped, accepted2, back_again, trusted_by_hand, Needed}
+use Rattle.quiet.specs.Examples.{none_waits_at, none_waits, last_view, Seen, seen, SettledSeen, settled_seen, example66, Example66, one_cut, OneCut, NoReport, unanswered, MessageWaits, Unanswered, apart_from1, OtherView, OtherProcess, stopped_before, Stopped, told_again, ToldAgain, accepted2, back_again, trusted_by_hand, Needed}
 use Rattle.quiet.proofs.Theorem.{quiet_is_agreed}
 use Rattle.quiet.proofs.AfterSettling.{settled_is_agreed}
 
@@ -36,7 +36,7 @@ unfolding pick all_up_to each_up_to at put has within with minus switched everyo
     plan_of taken_off emptied_from crashed_at crashed_if departed suspected_if_named doubted changed_at effected carried_out permitted attempted stepped happened ran
     idle_from matches answerable resting_from resting_at at_rest entry_in last_up_to last_non_empty local_if_named is_common
     passing tried move_of tried_with tried_at half_done round_done unless_idle rounds_done refused_at all_refused_at none_done nothing_to_do ending_of ended_with settled
-    none_waits_at none_waits last_view seen settled_seen example66 one_cut unanswered apart_from1 stopped_before accepted2 back_again trusted_by_hand
+    none_waits_at none_waits last_view seen settled_seen example66 one_cut unanswered apart_from1 stopped_before told_again accepted2 back_again trusted_by_hand
 definitions = tt
 
 pub example_66 : Example66
@@ -70,6 +70,10 @@ other_process = refl
 pub stopped_differs : Stopped
 unfolding definitions
 stopped_differs = refl
+
+pub told_again_differs : ToldAgain
+unfolding definitions
+told_again_differs = refl
 
 -- ---- S-5 is needed
 hand_refused : (stepped (ran (start 2) accepted2) (whole (Report (record { 0 = 2 }) 3))).refusal ≡ 13

@@ -1,5 +1,4 @@
 -- When it is quiet, it is agreed: what is so of every system that steps reach, that each transition keeps it, and what it says of rest.
-pub mod Views
 pub mod Opening
 pub mod Remains
 pub mod Proposals
@@ -12,4 +11,6 @@ pub mod Beginning
 pub mod Resting
 pub mod Theorem
 pub mod AfterSettling
+pub mod AfterRest
+pub mod Untold
 pub mod Examples

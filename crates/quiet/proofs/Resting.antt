@@ -18,20 +18,21 @@ use Rattle.system.specs.declared.Variables.{Variables}
 use Rattle.system.specs.declared.System.{System}
 use Rattle.system.specs.Process.{pending_at, Pending}
 use Rattle.system.specs.System.{process_at, variables_at, channel_at, entry_in}
+use Rattle.sound.specs.Sound.{sound_pending}
 use Rattle.step.specs.Rest.{idle_from, matches, answerable, resting_from, resting_at, at_rest}
-use Rattle.step.proofs.Soundness.{Sound, SoundVariables}
+use Rattle.step.proofs.Soundness.{Sound, SoundVariables, proposal_facts}
 use Rattle.step.proofs.Cases.{waiting_at, Known}
 use Rattle.agreement.specs.Accepted.{Acceptance, accepted}
-use Rattle.agreement.proofs.Invariant.{Recorded, Entered}
+use Rattle.agreement.proofs.Invariant.{Recorded}
 use Rattle.quiet.specs.Quiet.{last_up_to, last_non_empty, local_if_named, is_common, Final}
-use Rattle.quiet.proofs.Views.{least_named, part_by_processes}
+use Rattle.view.proofs.Members.{least_named, part_by_processes}
 use Rattle.quiet.proofs.Remains.{none_of_empty}
 use Rattle.quiet.proofs.Standing.{Followed, Untouched}
 use Rattle.quiet.proofs.Pursuit.{Notes, Underway, asked, noted, replied, marked, Concluded, announced, written}
 use Rattle.quiet.proofs.Orderly.{Orderly}
 
 -- ---- the last non-empty index
-last_is : (s : System) (p o i : ℕ) → 1 ≤ o → o ≤ i → (entry_in s p o ≡ 0 → ⊥) → ((j : ℕ) → o < j → entry_in s p j ≡ 0) → last_up_to i s p ≡ o
+pub last_is : (s : System) (p o i : ℕ) → 1 ≤ o → o ≤ i → (entry_in s p o ≡ 0 → ⊥) → ((j : ℕ) → o < j → entry_in s p j ≡ 0) → last_up_to i s p ≡ o
 unfolding last_up_to pick
 last_is s p o zero low high some none = absurd (omega arith)
 last_is s p o (suc i) low high some none =
@@ -52,7 +53,7 @@ not_both : (crashed b : Bool) → crashed ≡ false → (not crashed && b) ≡ f
 not_both true b live e = true_is_not_false live
 not_both false b live e = e
 
-rest_facts : (s : System) → at_rest s ≡ true → Resting s
+pub rest_facts : (s : System) → at_rest s ≡ true → Resting s
 unfolding at_rest resting_at resting_from idle_from answerable
 rest_facts s e =
     record {
@@ -104,6 +105,13 @@ unfolding matches
 matched at p None e recorded some = absurd e
 matched at p (Some r) e recorded some = eq-eqb r.view (at p).proposal (recorded.same e some)
 
+-- a sound record, from process q at process u
+noted_facts : (n q u : ℕ) (at : ℕ → Variables) (o : ℕ) (y : Pending) → sound_pending n q u y ≡ true → Notes o y → Recorded at q y
+    → (2 ≤ o) × (o ≡ (at q).propout.0 → ((at q).proposal ≡ 0 → ⊥) → has (at q).proposal u ≡ true)
+unfolding sound_pending
+noted_facts n q u at o None sound e recorded = absurd e
+noted_facts n q u at o (Some r) sound e recorded = grind (arith, proposal_facts)
+
 module _ {gone : ℕ → Bool} {s : System} {acc : List Acceptance} (orderly : Orderly gone s acc) (sound : Sound s) (begun : Begun s acc) (resting : Resting s) {v : ℕ}
     (common : Common s v) (stays : (k : ℕ) → has v k ≡ true → gone k ≡ false) (leader : has v (least_of v).0 ≡ true) where
   -- its least process, and PropOut of that one
@@ -113,13 +121,13 @@ module _ {gone : ℕ → Bool} {s : System} {acc : List Acceptance} (orderly : O
   abbrev o : ℕ
   o = (variables_at s (least_of v).0).propout.0
 
-  known : (u : ℕ) → has v u ≡ true → Known s u
+  pub known : (u : ℕ) → has v u ≡ true → Known s u
   known u h = grind (arith, has_number, has_inside)
 
   least : (least_of (variables_at s (least_of v).0).view).0 ≡ (least_of v).0
   least = ap (λ (w : ℕ). (least_of w).0) (common.view p leader)
 
-  own : SoundVariables s.n (least_of v).0 (variables_at s (least_of v).0)
+  pub own : SoundVariables s.n (least_of v).0 (variables_at s (least_of v).0)
   own = grind (arith, known)
 
   -- it has proposed nothing: it is the opening view, at index 1
@@ -141,13 +149,16 @@ module _ {gone : ℕ → Bool} {s : System} {acc : List Acceptance} (orderly : O
     this_view : (variables_at s (least_of v).0).proposal ≡ v
     this_view = (orderly.reached.own p).leads proposed least ∙ common.view p leader
 
-    only_marks : (u : ℕ) → has v u ≡ true → Underway s (variables_at s (least_of v).0).propout.0 (least_of v).0 u
-        → has (variables_at s (least_of v).0).acks u ≡ true
-    only_marks u h (asked e) = absurd (none_of_empty _ (subst (Any _) (resting.empty p u (known p leader) (known u h)) e))
-    only_marks u h (noted e) =
+    no_note : (u : ℕ) → has v u ≡ true → Notes (variables_at s (least_of v).0).propout.0 (pending_at (process_at s u) (least_of v).0) → ⊥
+    no_note u h e =
         let answer = matched (variables_at s) p (pending_at (process_at s u) p) e (orderly.reached.recorded u p) proposed in
         let same : (variables_at s u).view ≡ (variables_at s p).proposal = common.view u h ∙ sym this_view in
         true_is_not_false (sym answer ∙ sym (ap (λ (w : ℕ). matches w (pending_at (process_at s u) p)) same) ∙ resting.unanswerable u p (known u h) (known p leader) (common.live u h))
+
+    only_marks : (u : ℕ) → has v u ≡ true → Underway s (variables_at s (least_of v).0).propout.0 (least_of v).0 u
+        → has (variables_at s (least_of v).0).acks u ≡ true
+    only_marks u h (asked e) = absurd (none_of_empty _ (subst (Any _) (resting.empty p u (known p leader) (known u h)) e))
+    only_marks u h (noted e) = absurd (no_note u h e)
     only_marks u h (replied e) = absurd (none_of_empty _ (subst (Any _) (resting.empty u p (known u h) (known p leader)) e))
     only_marks u h (marked e) = e
 
@@ -176,7 +187,7 @@ module _ {gone : ℕ → Bool} {s : System} {acc : List Acceptance} (orderly : O
         subst (λ (w : ℕ). accepted acc u w o ≡ true) e (entered.agreed u entered.own)
 
   -- so each process has the view at PropOut of the least
-  written_there : (u : ℕ) → has v u ≡ true → entry_in s u (variables_at s (least_of v).0).propout.0 ≡ v
+  pub written_there : (u : ℕ) → has v u ≡ true → entry_in s u (variables_at s (least_of v).0).propout.0 ≡ v
   written_there u h = by_number (variables_at s p).proposal 0 (λ none. opening_written none u h) (λ proposed. agreed_written proposed u h)
 
   accepted_there : (u : ℕ) → has v u ≡ true → accepted acc u v (variables_at s (least_of v).0).propout.0 ≡ true
@@ -185,32 +196,46 @@ module _ {gone : ℕ → Bool} {s : System} {acc : List Acceptance} (orderly : O
   accepted_view : (u w : ℕ) → has v w ≡ true → has v u ≡ true → accepted acc u (variables_at s w).view (variables_at s (least_of v).0).propout.0 ≡ true
   accepted_view u w i h = rw (common.view w i) (accepted_there u h)
 
-  -- and nothing past it: the least has accepted nothing since, and the others only views with it
+  -- and has accepted nothing past it that its least process, where that is named, has accepted too: the least has accepted nothing since, and
+  -- the others only views with it
+  pub none_accepted : (u : ℕ) → has v u ≡ true → (w j : ℕ) → (variables_at s (least_of v).0).propout.0 < j → has w u ≡ true → accepted acc u w j ≡ true
+      → (has w (least_of v).0 ≡ true → accepted acc (least_of v).0 w j ≡ true)
+      → ⊥
+  none_accepted u h w j past member e both = clash (has w p) refl
+    where
+      next : (variables_at s p).next.0 ≡ o + 1
+      next = orderly.standing.next p (stays p leader) least (accepted_view p p leader leader)
+
+      clash : (t : Bool) → has w p ≡ t → ⊥
+      clash true named = omega (arith, past, next, orderly.reached.passed p w j (both named))
+      clash false lacked =
+          let followed : Followed _ s acc p u =
+          record {
+            leader_stays = stays p leader;
+            stays = stays u h;
+            apart = λ i. true_is_not_false (sym member ∙ subst (λ (x : ℕ). has w x ≡ false) (sym i) lacked);
+            least = least;
+            accepts = accepted_view u p leader h;
+          } in
+          true_is_not_false (sym ((orderly.standing.loyal p u followed).included (rw (common.view u h) leader) w j past e) ∙ lacked)
+
   none_past : (u : ℕ) → has v u ≡ true → (j : ℕ) → (variables_at s (least_of v).0).propout.0 < j → entry_in s u j ≡ 0
   none_past u h j past =
       by_number (entry_in s u j) 0 (λ e. e)
       (λ filled.
       let entered = orderly.reached.entries u j (omega (arith, past, own.propout_low)) filled in
-      absurd (clash (entry_in s u j) entered (has (entry_in s u j) p) refl))
-    where
-      next : (variables_at s p).next.0 ≡ o + 1
-      next = orderly.standing.next p (stays p leader) least (accepted_view p p leader leader)
+      absurd (none_accepted u h (entry_in s u j) j past entered.own (entered.agreed u entered.own) (entered.agreed p)))
 
-      clash : (w : ℕ) → Entered acc u j w → (t : Bool) → has w p ≡ t → ⊥
-      clash w entered true e = omega (arith, past, next, orderly.reached.passed p w j (entered.agreed p e))
-      clash w entered false e =
-          let followed : Followed _ s acc p u =
-          record {
-            leader_stays = stays p leader;
-            stays = stays u h;
-            apart = λ i. true_is_not_false (sym entered.own ∙ subst (λ (x : ℕ). has w x ≡ false) (sym i) e);
-            least = least;
-            accepts = accepted_view u p leader h;
-          } in
-          true_is_not_false
-          (sym ((orderly.standing.loyal p u followed).included (rw (common.view u h) leader) w j past (entered.agreed u entered.own)) ∙ e)
+  -- nobody has its last proposal recorded
+  pub no_record : (u : ℕ) → Known s u → Notes (variables_at s (least_of v).0).propout.0 (pending_at (process_at s u) (least_of v).0) → ⊥
+  no_record u k e =
+      let q = known p leader in
+      let f = noted_facts s.n p u (variables_at s) o (pending_at (process_at s u) p) ((sound.process u k.low k.high).recorded p q.low q.high) e (orderly.reached.recorded u p) in
+      by_number (variables_at s p).proposal 0
+      (λ none. omega (arith, f.0, (untouched none).first))
+      (λ some. no_note some u (rw (this_view some) at (f.1 refl some)) e)
 
-  last_there : (u : ℕ) → has v u ≡ true → last_non_empty s u ≡ (variables_at s (least_of v).0).propout.0
+  pub last_there : (u : ℕ) → has v u ≡ true → last_non_empty s u ≡ (variables_at s (least_of v).0).propout.0
   unfolding last_non_empty
   last_there u h =
       last_is s u o 32 own.propout_low own.propout_high (λ z. not_empty v u h (sym (written_there u h) ∙ z)) (none_past u h)

@@ -16,7 +16,7 @@ use Rattle.step.proofs.Cases.{SameTrust}
 use Rattle.agreement.specs.Accepted.{Acceptance, accepted}
 use Rattle.agreement.proofs.Acceptances.{Same, last_or_before}
 use Rattle.agreement.proofs.Invariant.{Reached}
-use Rattle.quiet.proofs.Views.{least_named}
+use Rattle.view.proofs.Members.{least_named}
 use Rattle.quiet.proofs.Turns.{Renewed, Steady, same_steady, Bringing, Turn, new_view_lem, new_index, new_acceptance, nothing_new, Taking}
 
 -- ---- process u has accepted what p proposed last, and p is the least of its local view

@@ -25,7 +25,7 @@ use Rattle.quiet.proofs.Resting.{Begun, common_facts, resting_final}
 
 -- ---- one to eight processes
 module _ (n : ℕ) (size : is_one_of 8 n ≡ true) (es : List Event) where
-  run_begun : Begun (ran (fresh_system n) es) (grown accepted_then (opening n) (fresh_system n) (moves_in (fresh_system n) es))
+  pub run_begun : Begun (ran (fresh_system n) es) (grown accepted_then (opening n) (fresh_system n) (moves_in (fresh_system n) es))
   unfolding fresh_system
   run_begun =
       let same : (ran (fresh_system n) es).n ≡ n = run_size (fresh_system n) es in

@@ -121,6 +121,15 @@ Stopped =
     seen (ran (start 2) stopped_before) 3 (1 ∷ 2 ∷ [])
     ≡ record { nobody_waits = true; rests = true; common = false; last = 2 ∷ 1 ∷ []; views = 3 ∷ 3 ∷ [] }
 
+-- a report, though of the same view: process 1 is told 12 again, and has a new entry before process 2 has it
+unfoldable pub told_again : List Event
+told_again = r 1 3 ∷ t 1 1 ∷ a 1 1 ∷ t 1 2 ∷ a 2 1 ∷ t 1 1 ∷ t 2 1 ∷ t 1 1 ∷ []
+
+abbrev pub ToldAgain : Type 0
+ToldAgain =
+    seen (ran (start 2) told_again) 3 (1 ∷ 2 ∷ [])
+    ≡ record { nobody_waits = false; rests = false; common = true; last = 2 ∷ 1 ∷ []; views = 3 ∷ 3 ∷ [] }
+
 -- S-5: process 2 accepts {2} and then wants 1 back, too early: 13
 unfoldable pub accepted2 : List Event
 accepted2 = r 2 2 ∷ t 2 2 ∷ a 2 2 ∷ []

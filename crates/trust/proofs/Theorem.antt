@@ -1,18 +1,19 @@
 -- In every system from a fresh one, for q not in p's view, the mark (p, q) is on exactly if at some moment since p's latest suspicion of q
 -- began (that moment counted) q's view lacked p. By induction over the moves: a report of p begins the suspicion, a report of q without p
 -- turns the mark on, and nothing else changes the two views or the mark.
-use Prim.Native.Nat.{ℕ, ◌≤◌}
+use Prim.Native.Nat.{ℕ, ◌≤◌, ◌<◌}
 use mathlib.Core.Path.{◌≡◌, ap}
 use mathlib.Core.Bool.{Bool, true, false, ◌||◌, not}
 use mathlib.Core.List.{List, [], ◌∷◌}
 use native.Mathlib.Omega.{arith}
 use Rattle.view.specs.declared.ProcessId.{ProcessId}
 use Rattle.view.specs.Logic.{pick, is_one_of}
-use Rattle.view.specs.View.{has}
+use Rattle.view.specs.View.{has, minus, least_of}
 use Rattle.view.proofs.Laws.{one_of}
-use Rattle.view.proofs.Sets.{has_number, has_inside, everyone-has}
+use Rattle.view.proofs.Sets.{has_number, has_inside, has-minus, everyone-has}
+use Rattle.view.proofs.Members.{no_part, small_minus}
 use Rattle.system.specs.declared.System.{System}
-use Rattle.system.specs.System.{may_trust}
+use Rattle.system.specs.System.{trust_at, may_trust}
 use Rattle.system.specs.Fresh.{fresh_variables, fresh_system, fresh_of}
 use Rattle.plan.specs.declared.Cut.{Cut}
 use Rattle.plan.specs.declared.Step.{Step}
@@ -24,8 +25,9 @@ use Rattle.step.proofs.Beginning.{fresh_variables_lem}
 use Rattle.events.specs.Event.{Event, ran, made, moved, moves_in, grown}
 use Rattle.events.proofs.Moves.{run_leads}
 use Rattle.events.proofs.Runs.{done_sound, any_run, start_shape, shape_kept, run_size}
-use Rattle.trust.specs.Trust.{lacks, earlier, moments, suspicion, lacked_once, lacked_since, Means, ComesBack}
+use Rattle.trust.specs.Trust.{lacks, earlier, moments, suspicion, lacked_once, lacked_since, Means, ComesBack, Early, TooEarly}
 use Rattle.trust.proofs.Views.{view_at, Views, kept, renewed, views}
+use Rattle.trust.proofs.Refused.{Refused13, refused_13}
 
 -- ---- the walk back over the moments
 -- the latest moment, and those before
@@ -125,3 +127,24 @@ comes_back n es p v cut q done =
     let shape = shape_kept (start n) s (moves_in (start n) es) (run_leads (start n) es) (start_shape n) in
     let valid : Valid s = record { shape = shape; sound = done_sound s (made o) done } in
     brought_back (grown earlier [] (start n) (moves_in (start n) es)) p v q (meant n es) (transition s o valid done)
+
+-- ---- a report that is refused with 13
+-- of one that the report brings back and p may not trust
+early_one : (s : System) (before : List System) (p v q : ℕ) → Meant s before → Refused13 s p v → has (minus (minus v (view_at s p)) (trust_at s p)) q ≡ true
+    → (lacks s p q ≡ true) × (has v q ≡ true) × (since p q s before ≡ false)
+unfolding lacks
+early_one s before p v q was r left =
+    grind (arith, sound_facts, one_of, has_number v q, has_inside s.n v q, has-minus (minus v (view_at s p)) (trust_at s p) q, has-minus v (view_at s p) q, was p q)
+
+early : (n : ℕ) (es : List Event) (p v : ℕ) → v < 256 → Refused13 (ran (start n) es) p v → Early n es p v
+unfolding lacked_since moments since
+early n es p v small r =
+    let s = ran (start n) es in
+    let new = minus v (view_at s p) in
+    let q = (least_of (minus new (trust_at s p))).0 in
+    let left = no_part new (trust_at s p) (small_minus v (view_at s p) small) r.part in
+    let a = early_one s (grown earlier [] (start n) (moves_in (start n) es)) p v q (meant n es) r left in
+    record { process = q; gone = a.0; named = a.1; early = a.2 }
+
+pub too_early : (n : ℕ) (es : List Event) (p : ProcessId) (v : ℕ) (cut : Cut) → TooEarly n es p v cut
+too_early n es p v cut small refusal = early n es p.0 v small (refused_13 (ran (start n) es) p v cut refusal)

@@ -1,7 +1,7 @@
 -- S-5: "a report that brings back a unit q is refused unless, at some moment since p's latest suspicion of q (that moment counted), q's
 -- local view lacked p. A suspicion begins when q leaves p's local view; a fresh table has none". Here this is told from the list of events,
 -- without the marks.
-use Rattle.std.specs.Prelude.{ℕ, ◌≡◌, Bool, true, false, ◌||◌, not, List, [], ◌∷◌}
+use Rattle.std.specs.Prelude.{ℕ, ◌<◌, ◌≡◌, Bool, true, false, ◌||◌, not, List, [], ◌∷◌}
 use Rattle.view.specs.declared.ProcessId.{ProcessId}
 use Rattle.view.specs.Logic.{pick, is_one_of}
 use Rattle.view.specs.View.{has}
@@ -55,3 +55,15 @@ ComesBack n es p v cut q =
     → lacks (ran (fresh_of n).system es) p.0 q ≡ true
     → has v q ≡ true
     → lacked_since n es p.0 q ≡ true
+
+-- And the other way: a report that is refused with 13 brings back some process of which this is false.
+pub record Early (n : ℕ) (es : List Event) (p v : ℕ) : Type 0 where
+  pub process : ℕ
+  pub gone : lacks (ran (fresh_of n).system es) p process ≡ true
+  pub named : has v process ≡ true
+  pub early : lacked_since n es p process ≡ false
+
+-- whole or cut. A view is "kept as one byte"
+abbrev pub TooEarly : ℕ → List Event → ProcessId → ℕ → Cut → Type 0
+TooEarly n es p v cut =
+    v < 256 → (stepped (ran (fresh_of n).system es) (record { action = Report p v; cut = cut })).refusal ≡ 13 → Early n es p.0 v

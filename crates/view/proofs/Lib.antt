@@ -1,5 +1,6 @@
 pub mod Chains
 pub mod Laws
+pub mod Members
 pub mod Sets
 pub mod Sums
 pub mod Table

@@ -7,10 +7,11 @@ use native.Mathlib.Nat.{min-eq_left, pow-suc, div-div-eq-div-mul}
 use borrow.Author.Tests.{eqb-true, eq-eqb}
 use lib.Dec.{eqb}
 use lib.Bits.{bit_and, and_step}
+use Rattle.std.proofs.lemmas.Nat.{and_le_l, xor_of_8}
 use Rattle.view.specs.Logic.{pick, is_one_of}
-use Rattle.view.specs.View.{has, subset, everyone, first_from, least_of}
-use Rattle.view.proofs.Laws.{by_pick, by_number, true_is_not_false, one_of}
-use Rattle.view.proofs.Sets.{has_number}
+use Rattle.view.specs.View.{has, subset, minus, everyone, first_from, least_of}
+use Rattle.view.proofs.Laws.{by_pick, by_test, by_number, true_is_not_false, one_of}
+use Rattle.view.proofs.Sets.{has_number, has-minus}
 use Rattle.view.proofs.Table.{below}
 
 -- ---- the least process
@@ -59,6 +60,20 @@ bit_set v j e = grind arith
 -- of a view that is one byte
 pub part_by_processes : (a b : ℕ) → a < 256 → ((u : ℕ) → has a u ≡ true → has b u ≡ true) → subset a b ≡ true
 part_by_processes a b small h = eq-eqb (bit_and a b) a (part_by_bits 8 a b small (λ j l e. bit_set b j (h (suc j) (set_bit a j l e))))
+
+-- what is no part of a view: the least of its processes that the view lacks
+left_over : (a b u : ℕ) → has (minus a b) (least_of (minus a b)).0 ≡ false → has a u ≡ true → has b u ≡ true
+left_over a b u none named = grind (arith, has-minus a b u, least_named (minus a b) u)
+
+pub no_part : (a b : ℕ) → a < 256 → subset a b ≡ false → has (minus a b) (least_of (minus a b)).0 ≡ true
+no_part a b small e =
+    by_test (has (minus a b) (least_of (minus a b)).0)
+    (λ z. z)
+    (λ none. true_is_not_false (sym (part_by_processes a b small (λ u. left_over a b u none)) ∙ e))
+
+pub small_minus : (a b : ℕ) → a < 256 → minus a b < 256
+unfolding minus
+small_minus a b small = xor_of_8 a (bit_and a b) small (omega (arith, and_le_l a b))
 
 -- ---- the view of all
 pub everyone_least : (n : ℕ) → is_one_of 8 n ≡ true → (least_of (everyone n)).0 ≡ 1
