@@ -1,22 +1,31 @@
-//! One agreement of two units: `cargo run --example agreement` in rust/, after `bash tools/build library`.
+//! One agreement of two processes, step by step: `cargo run --example agreement` in rust/, after
+//! `bash tools/build library`.
 
-use lobstercreel::{Action, Refusal, System};
+use lobstercreel::{Action, GroupIndex, ProcessId, Refusal, System, View};
 
 fn main() -> Result<(), Refusal> {
-    let both = 0b11;
+    let (p, q) = (ProcessId(1), ProcessId(2));
+    let both = View::from([p, q]);
     let mut system = System::fresh(2)?;
-    system.perform(Action::Report { p: 1, view: both })?;
-    for p in [1, 2] {
-        system.perform(Action::Receive { q: 1, p })?;
-        system.perform(Action::Respond { p, q: 1 })?;
+    // The least process of the view proposes it.
+    system.perform(Action::Report { p, view: both })?;
+    for member in both {
+        system.perform(Action::Receive { from: p, at: member })?;
+        system.perform(Action::Respond { p: member, to: p })?;
     }
-    for q in [1, 2] {
-        system.perform(Action::Receive { q, p: 1 })?;
+    // It has accepted itself, and so has the other: it commits.
+    for member in both {
+        system.perform(Action::Receive { from: member, at: p })?;
     }
-    for p in [1, 2] {
-        system.perform(Action::Receive { q: 1, p })?;
-        assert_eq!(system.entry(p, 2), Some(both));
-        println!("unit {p} has the view of both at position 2");
+    for member in both {
+        system.perform(Action::Receive { from: p, at: member })?;
+        assert_eq!(system.entry(member, GroupIndex(2)), Some(both));
     }
+    for process in system.processes() {
+        println!("{process}");
+    }
+    // Nothing is left to do.
+    let refusal = system.perform(Action::Receive { from: p, at: q }).unwrap_err();
+    println!("refused with {}, {}: {refusal}", refusal.number(), refusal.word());
     Ok(())
 }

@@ -1,117 +1,67 @@
-//! The wrapper against the library: its constants, its numbers, the order of its arguments, and every
-//! entry. The bytes of the images are those of docs/IMAGE.md.
+//! The steps by the wrapper's types: every refusal, the order of the arguments, cuts, lists, settling
+//! runs, and systems of every size.
 
+mod common;
+
+use common::{channel_at, image, record_at, send, Image, ACC, COMMIT, LENGTH, RETRY};
 use lobstercreel::{
-    fresh, run_sheet, run_sheet_into, settle, settle_into, step, steps_into, Action, Ending,
-    Refusal, Settling, Step, System, IMAGE, MOST_STEPS, OUTPUT, WHOLE,
+    raw, Action, Answer, Ending, GroupIndex, ProcessId, Refusal, Settling, Step, System, View,
+    MOST_STEPS,
 };
+use std::error::Error;
 
-/// A fresh image of n processes.
-fn image(n: u8) -> [u8; IMAGE] {
-    *System::fresh(n).unwrap().image()
+fn report(p: u8, view: u8) -> Action {
+    Action::Report { p: ProcessId(p), view: View::from_bits(view) }
 }
 
-/// Puts a message on the empty channel from q to p.
-fn send(image: &mut [u8; IMAGE], q: u8, p: u8, message: [u8; 3]) {
-    let channel = 497 + 200 * (usize::from(q) - 1) + 25 * (usize::from(p) - 1);
-    image[channel..][..3].copy_from_slice(&message);
-    image[channel + 24] = 1;
+fn receive(from: u8, at: u8) -> Action {
+    Action::Receive { from: ProcessId(from), at: ProcessId(at) }
 }
 
-fn both(p: u8, q: u8) -> u8 {
-    1 << (p - 1) | 1 << (q - 1)
+fn respond(p: u8, to: u8) -> Action {
+    Action::Respond { p: ProcessId(p), to: ProcessId(to) }
 }
 
-const COMMIT: u8 = 3;
-const ACC: u8 = 2;
-const RETRY: u8 = 1;
-
-#[test]
-fn only_an_image_of_its_length() {
-    for length in [0, 1, IMAGE - 1, IMAGE + 1, 2 * IMAGE] {
-        let before = vec![7; length];
-        let mut bytes = before.clone();
-        assert_eq!(fresh(&mut bytes, 2), Err(Refusal(1)), "{length}");
-        assert_eq!(step(&mut bytes, Action::Crash { p: 1 }), Err(Refusal(1)), "{length}");
-        assert_eq!(settle(&mut bytes), Err(Refusal(1)), "{length}");
-        assert_eq!(bytes, before);
-    }
+fn crash(p: u8) -> Action {
+    Action::Crash { p: ProcessId(p) }
 }
 
+/// A system of every size; and for each other number the refusal and the system of no processes.
 #[test]
 fn sizes() {
     for n in 0..=u8::MAX {
-        let mut bytes = [7; IMAGE];
-        let good = (1..=8).contains(&n);
-        assert_eq!(fresh(&mut bytes, n), if good { Ok(()) } else { Err(Refusal(2)) });
-        assert_eq!(bytes[0], if good { n } else { 0 });
+        let mut renewed = System::from_image([7; lobstercreel::IMAGE]);
+        let answer = renewed.renew(n);
         match System::fresh(n) {
-            Ok(system) => assert!(good && (1..=n).all(|p| system.entry(p, 1) == Some(everyone(n)))),
-            Err(refusal) => assert!(!good && refusal == Refusal(2)),
-        }
-    }
-}
-
-fn everyone(n: u8) -> u8 {
-    (1..=n).fold(0, |view, p| view | 1 << (p - 1))
-}
-
-/// Each entry of each process, written by a Commit from each other, stands where `entry` looks, and
-/// nowhere else.
-#[test]
-fn entries() {
-    for (p, q) in (1..=8).flat_map(|p| (1..=8).map(move |q| (p, q))) {
-        for i in 2..=32 {
-            let mut bytes = image(8);
-            // What lies next to the entries is not 0 either.
-            let process = 1 + 62 * (usize::from(p) - 1);
-            bytes[process + 27..][..3].copy_from_slice(&[1, both(p, 8), 9]);
-            bytes[process + 62] = 1;
-            send(&mut bytes, q, p, [COMMIT, both(p, q), i]);
-            let mut system = System::from_image(bytes);
-            assert_eq!(system.perform(Action::Receive { q, p }), Ok(()));
-            for (other, j) in (0..=9).flat_map(|other| (0..=34).map(move |j| (other, j))) {
-                let first = j == 1 && (1..=8).contains(&other);
-                let wanted = match (other, j) {
-                    _ if first => Some(255),
-                    _ if (other, j) == (p, i) => Some(both(p, q)),
-                    _ => None,
-                };
-                assert_eq!(system.entry(other, j), wanted, "{other} at {j}, {p} wrote at {i}");
+            Ok(system) => {
+                assert!((1..=8).contains(&n) && system.n() == n && system.is_sound());
+                assert_eq!(system.processes().len(), n.into());
+                assert!(system.processes().all(|process| process.view == View::first(n)));
+                assert_eq!((answer, renewed), (Ok(()), system));
+            }
+            Err(wrong) => {
+                assert!(!(1..=8).contains(&n) && wrong.n() == n);
+                assert_eq!(wrong.refusal(), Refusal::Stranger);
+                assert_eq!(Refusal::from(wrong), Refusal::Stranger);
+                let said = format!("a fresh system has 1 to 8 processes, not {n}");
+                assert_eq!(wrong.to_string(), said);
+                assert_eq!(wrong.source().unwrap().to_string(), Refusal::Stranger.to_string());
+                let mut none = wrong.system();
+                assert_eq!((none.n(), none.processes().len(), none.channels().count()), (0, 0, 0));
+                assert!(!none.is_sound());
+                assert_eq!((answer, &renewed), (Err(Refusal::Stranger), &none));
+                let before = *none.image();
+                for p in [0, 1, 9] {
+                    for action in [report(p, 1), receive(p, 1), respond(p, 1), crash(p)] {
+                        assert_eq!(none.perform(action), Err(Refusal::Unsound));
+                        assert_eq!(none.perform(action.cut_after(0)), Err(Refusal::Unsound));
+                    }
+                }
+                assert_eq!(none.settle(), Err(Refusal::Unsound));
+                assert_eq!(*none.image(), before);
             }
         }
     }
-}
-
-/// There is no process past n, whatever its bytes are.
-#[test]
-fn no_entries_past_n() {
-    let mut bytes = image(8);
-    for n in 0..=u8::MAX {
-        bytes[0] = n;
-        let system = System::from_image(bytes);
-        for p in 0..=u8::MAX {
-            assert_eq!(system.entry(p, 1).is_some(), (1..=n.min(8)).contains(&p), "{p} of {n}");
-        }
-    }
-}
-
-/// Bytes that mean nothing may hold anything, and a refused step leaves them too.
-#[test]
-fn stray_bytes() {
-    let mut bytes = image(2);
-    bytes[1 + 62 * 2..497].fill(255);
-    for (q, p) in (1..=8).flat_map(|q| (1..=8).map(move |p| (q, p))) {
-        let channel = 497 + 200 * (q - 1) + 25 * (p - 1);
-        bytes[channel..channel + 24].fill(255);
-        bytes[channel + 24] = if q <= 2 && p <= 2 { 0 } else { 255 };
-    }
-    let mut system = System::from_image(bytes);
-    assert_eq!(system.perform(Action::Receive { q: 1, p: 2 }), Err(Refusal(5)));
-    assert_eq!(*system.image(), bytes);
-    assert_eq!(system.perform(Action::Report { p: 1, view: 3 }), Ok(()));
-    assert_eq!(system.perform(Action::Receive { q: 1, p: 2 }), Ok(()));
-    assert_eq!(system.entry(3, 1), None);
 }
 
 /// Who acts and who is acted upon: an answer goes from p to q, a message is taken from q at p.
@@ -119,27 +69,22 @@ fn stray_bytes() {
 fn arguments() {
     let mut system = System::fresh(3).unwrap();
     let view = 0b110;
-    assert_eq!(system.perform(Action::Report { p: 2, view }), Ok(()));
-    assert_eq!(system.perform(Action::Receive { q: 3, p: 2 }), Err(Refusal(5)));
-    assert_eq!(system.perform(Action::Receive { q: 2, p: 3 }), Ok(()));
-    assert_eq!(system.perform(Action::Report { p: 3, view }), Ok(()));
-    assert_eq!(system.perform(Action::Respond { p: 2, q: 3 }), Err(Refusal(10)));
-    assert_eq!(system.perform(Action::Respond { p: 3, q: 2 }), Ok(()));
-    assert_eq!(system.perform(Action::Crash { p: 2 }), Ok(()));
-    assert_eq!(system.perform(Action::Report { p: 2, view }), Err(Refusal(3)));
-    assert_eq!(system.perform(Action::Report { p: 3, view }), Ok(()));
+    assert_eq!(system.perform(report(2, view)), Ok(()));
+    assert_eq!(system.perform(receive(3, 2)), Err(Refusal::NothingThere));
+    assert_eq!(system.perform(receive(2, 3)), Ok(()));
+    assert_eq!(system.perform(report(3, view)), Ok(()));
+    assert_eq!(system.perform(respond(2, 3)), Err(Refusal::NoRecord));
+    assert_eq!(system.perform(respond(3, 2)), Ok(()));
+    assert_eq!(system.perform(crash(2)), Ok(()));
+    assert_eq!(system.perform(report(2, view)), Err(Refusal::Crashed));
+    assert_eq!(system.perform(report(3, view)), Ok(()));
 }
 
-/// The numbers of the refusal table, and the image that stays.
+/// Every refusal that a step can give, on an image where it is due; and the image stays.
 #[test]
 fn refusals() {
     let mut full = image(2);
-    send(&mut full, 1, 2, [ACC, 2, 0]);
-    let channel = 497 + 25;
-    for slot in 0..8 {
-        full[channel + 3 * slot..][..3].copy_from_slice(&[ACC, 2, 0]);
-    }
-    full[channel + 24] = 8;
+    (0..8).for_each(|_| send(&mut full, 1, 2, [ACC, 2, 0]));
     let mut last = image(2);
     last[1 + 3] = 32;
     last[1 + 4] = 1;
@@ -149,63 +94,137 @@ fn refusals() {
     unsound[1 + 2] = 34;
     let mut other = image(2);
     other[1 + 1] = 1;
-    other[1 + 6 + 3..][..3].copy_from_slice(&[1, 3, 2]);
-    let report = Action::Report { p: 1, view: 3 };
-    let cases = [
-        (unsound, report, 1),
-        (image(2), Action::Report { p: 3, view: 3 }, 2),
-        (stopped, report, 3),
-        (image(2), Action::Report { p: 1, view: 2 }, 4),
-        (image(2), Action::Receive { q: 1, p: 2 }, 5),
-        (last, report, 6),
-        (full, report, 7),
-        (image(2), Action::Respond { p: 1, q: 2 }, 10),
-        (other, Action::Respond { p: 1, q: 2 }, 11),
+    other[record_at(1, 2)..][..3].copy_from_slice(&[1, 3, 2]);
+    let mut alone = image(2);
+    alone[1 + 1] = 1;
+    let whole: [(Image, Action, Refusal); 12] = [
+        (unsound, report(1, 3), Refusal::Unsound),
+        (image(2), report(3, 3), Refusal::Stranger),
+        (image(2), report(0, 3), Refusal::Stranger),
+        (image(2), respond(1, 9), Refusal::Stranger),
+        (stopped, report(1, 3), Refusal::Crashed),
+        (image(2), report(1, 2), Refusal::OddView),
+        (image(2), receive(1, 2), Refusal::NothingThere),
+        (last, report(1, 3), Refusal::HistoryFull),
+        (full, report(1, 3), Refusal::ChannelFull),
+        (image(2), respond(1, 2), Refusal::NoRecord),
+        (other, respond(1, 2), Refusal::OtherView),
+        (alone, report(1, 3), Refusal::EarlyTrust),
     ];
-    for (bytes, refused, number) in cases {
+    let cut = (image(2), report(1, 3).cut_after(2), Refusal::CutTooLate);
+    let cases = whole.map(|(image, action, refusal)| (image, action.whole(), refusal));
+    let mut met = Vec::new();
+    for (bytes, refused, refusal) in cases.into_iter().chain([cut]) {
         let mut system = System::from_image(bytes);
-        assert_eq!(system.perform(refused), Err(Refusal(number)), "{refused:?}");
+        assert_eq!(system.perform(refused), Err(refusal), "{refused:?}");
         assert_eq!(*system.image(), bytes);
+        // In a list it is the same.
+        let mut answers = [Ok(())];
+        assert_eq!(system.perform_into(&[refused], &mut answers), 1);
+        assert_eq!(answers, [Err(refusal)], "{refused:?}");
+        assert_eq!(*system.image(), bytes);
+        assert_eq!(raw::perform(&mut bytes.clone(), refused), refusal.number());
+        met.push(refusal);
+    }
+    // The others are no step's: a line, a sheet, a walk.
+    for refusal in Refusal::ALL {
+        let no_step = [Refusal::BadLine, Refusal::LongSheet, Refusal::TooDeep].contains(refusal);
+        assert_eq!(met.contains(refusal), !no_step, "{refusal:?}");
     }
 }
 
-/// A list of steps does what its steps do one by one; what is no step is refused with 8; and as many
-/// are done as there are places.
+/// 8 of a list and of a sheet, 9 of a sheet.
+#[test]
+fn refusals_of_no_step() {
+    let mut numbers = [77];
+    raw::steps(&mut image(1), &[4, 1, 1, 255], &mut numbers);
+    assert_eq!(Refusal::from_number(numbers[0]), Some(Refusal::BadLine));
+    let mut out = [0; 40];
+    assert_eq!(lobstercreel::run_sheet_into("x", &mut out), b"1 8 1\n");
+    assert_eq!(lobstercreel::run_sheet_into(vec![b'\n'; 60_001], &mut out), b"0 9\n");
+}
+
+/// Numbers, words and sentences; and that it is an error like others.
+#[test]
+fn table_of_refusals() {
+    let wanted = [
+        (1, "unsound", "the table is not sound"),
+        (2, "stranger", "a unit number in the step is not 1 to n, or a fresh table is wanted of a wrong size"),
+        (3, "stopped", "the unit that would act has stopped"),
+        (4, "odd view", "a report names a unit beyond n, or lacks its own unit"),
+        (5, "nothing there", "taking from an empty line"),
+        (6, "history full", "a report by the least unit of its view with PropOut 32; a Retry that would be acted on, with new 33"),
+        (7, "line full", "a message of this step goes to a unit that has not stopped, over a line that already holds 8"),
+        (8, "bad line", "a sheet line, or a step of a list, is of no known form"),
+        (9, "long sheet", "a sheet of more than 60,000 bytes"),
+        (10, "no record", "answering with no recorded proposal"),
+        (11, "other view", "answering a recorded proposal whose view is not the local view"),
+        (12, "cut too late", "a step is cut after no fewer messages than it would send"),
+        (13, "early trust", "a report brings back a unit whose view has not lacked the reporting one since it was last suspected"),
+        (14, "too deep", "all orders are wanted for depth above 8 or more than 2 units"),
+    ];
+    let told: Vec<_> = Refusal::ALL
+        .iter()
+        .map(|refusal| (refusal.number(), refusal.word(), refusal.to_string()))
+        .collect();
+    assert_eq!(told, wanted.map(|(number, word, sentence)| (number, word, sentence.to_string())));
+    for number in 0..=u8::MAX {
+        let refusal = Refusal::from_number(number);
+        assert_eq!(refusal.is_some(), (1..=14).contains(&number));
+        assert!(refusal.is_none_or(|refusal| u8::from(refusal) == number));
+    }
+    let error: Box<dyn Error + Send + Sync> = Refusal::Crashed.into();
+    assert_eq!(error.to_string(), "the unit that would act has stopped");
+    assert_eq!(format!("{:?}", Refusal::Crashed), "Crashed");
+    assert_eq!(size_of::<Answer>(), 1);
+}
+
+/// A list of steps does what its steps do one by one, in parts of any size, and no more than there are
+/// places for.
 #[test]
 fn lists() {
-    let list = [
-        Action::Report { p: 2, view: 0b110 },
-        Action::Receive { q: 3, p: 2 },
-        Action::Receive { q: 2, p: 3 },
-        Action::Report { p: 3, view: 0b110 },
-        Action::Respond { p: 3, q: 2 },
-        Action::Crash { p: 2 },
-        Action::Crash { p: 2 },
-    ]
-    .map(Step::from);
-    let (mut one_by_one, mut at_once) = (System::fresh(3).unwrap(), System::fresh(3).unwrap());
-    let wanted: Vec<_> = list.iter().map(|&step| one_by_one.perform(step)).collect();
-    let five = Err(Refusal(5));
-    let three = Err(Refusal(3));
-    assert_eq!(wanted, [Ok(()), five, Ok(()), Ok(()), Ok(()), Ok(()), three]);
-    assert_eq!(at_once.perform_all(&list), wanted);
-    assert_eq!(one_by_one, at_once);
+    let some = [
+        report(2, 0b110),
+        receive(3, 2),
+        receive(2, 3),
+        report(3, 0b110),
+        respond(3, 2),
+        crash(2),
+        crash(2),
+    ];
+    let list: Vec<Step> = some.map(Step::from).into_iter().cycle().take(100).collect();
+    let mut one_by_one = System::fresh(3).unwrap();
+    let wanted: Vec<Answer> = list.iter().map(|&step| one_by_one.perform(step)).collect();
+    let (empty, stopped) = (Err(Refusal::NothingThere), Err(Refusal::Crashed));
+    assert_eq!(wanted[..7], [Ok(()), empty, Ok(()), Ok(()), Ok(()), Ok(()), stopped]);
+    for places in [0, 1, 31, 32, 33, 64, 99, 100, 101] {
+        let mut at_once = System::fresh(3).unwrap();
+        let mut answers = vec![Err(Refusal::TooDeep); places];
+        let done = at_once.perform_into(&list, &mut answers);
+        assert_eq!(done, places.min(100));
+        assert_eq!(answers[..done], wanted[..done]);
+        assert!(answers[done..].iter().all(|&answer| answer == Err(Refusal::TooDeep)));
+        for &step in &list[done..] {
+            let _ = at_once.perform(step);
+        }
+        assert_eq!(at_once.image(), one_by_one.image());
+    }
+    #[cfg(feature = "alloc")]
+    {
+        let mut at_once = System::fresh(3).unwrap();
+        assert_eq!(at_once.perform_all(&list), wanted);
+        assert_eq!(at_once.image(), one_by_one.image());
+        assert_eq!(at_once.perform_all(&[]), []);
+    }
+}
 
-    let mut bytes = image(2);
-    let mut numbers = [77; 6];
-    assert_eq!(
-        steps_into(&mut bytes, &[3, 1, 0, 255, 4, 1, 0, 255, 3, 1, 9, 255, 3, 2, 0], &mut numbers),
-        4
-    );
-    assert_eq!(numbers, [0, 8, 3, 8, 77, 77]);
-    assert_eq!(steps_into(&mut bytes, &[3, 2, 0, 255, 3, 2, 0, 255], &mut numbers[..1]), 1);
-    assert_eq!(numbers, [0, 8, 3, 8, 77, 77]);
-    assert_eq!(steps_into(&mut bytes, &[3, 2, 0, 255, 255], &mut numbers), 2);
-    assert_eq!(numbers, [3, 8, 3, 8, 77, 77]);
-    assert_eq!(steps_into(&mut bytes, &[], &mut numbers), 0);
-    assert_eq!(steps_into(&mut bytes, &[3, 2, 0, 255], &mut []), 0);
-    assert_eq!(steps_into(&mut bytes[1..], &[3, 2, 0, 255, 7, 7, 7, 7], &mut numbers), 2);
-    assert_eq!(numbers, [1, 8, 3, 8, 77, 77]);
+/// The bytes of a step in a list.
+#[test]
+fn bytes_of_steps() {
+    assert_eq!(report(2, 6).whole().to_bytes(), [0, 2, 6, 255]);
+    assert_eq!(receive(3, 4).cut_after(1).to_bytes(), [1, 3, 4, 1]);
+    assert_eq!(respond(5, 6).cut_after(254).to_bytes(), [2, 5, 6, 254]);
+    assert_eq!(crash(255).cut_after(255).to_bytes(), [3, 255, 0, 254]);
 }
 
 /// A step cut after k messages: those are placed, in rising order, and the process stops.
@@ -213,40 +232,55 @@ fn lists() {
 fn cuts() {
     for k in 0..=9 {
         let mut system = System::fresh(5).unwrap();
-        let report = Action::Report { p: 1, view: 0b11111 };
+        let report = report(1, 0b11111);
         if k >= 5 {
-            assert_eq!(system.perform(report.cut(k)), Err(Refusal(12)), "{k}");
+            assert_eq!(system.perform(report.cut_after(k)), Err(Refusal::CutTooLate), "{k}");
             continue;
         }
-        assert_eq!(system.perform(report.cut(k)), Ok(()), "{k}");
-        assert_eq!(system.perform(report), Err(Refusal(3)), "{k}");
+        assert_eq!(system.perform(report.cut_after(k)), Ok(()), "{k}");
+        assert_eq!(system.perform(report), Err(Refusal::Crashed), "{k}");
         for p in 2..=5 {
-            let taken = system.perform(Action::Receive { q: 1, p });
-            assert_eq!(taken, if p <= k { Ok(()) } else { Err(Refusal(5)) }, "{p} of {k}");
+            let taken = system.perform(receive(1, p));
+            let sent = p <= k;
+            assert_eq!(taken, if sent { Ok(()) } else { Err(Refusal::NothingThere) }, "{p} of {k}");
         }
         // A cut answer is given and not sent.
         if k >= 2 {
-            assert_eq!(system.perform(Action::Respond { p: 2, q: 1 }.cut(1)), Err(Refusal(12)));
-            assert_eq!(system.perform(Action::Respond { p: 2, q: 1 }.cut(0)), Ok(()));
-            assert_eq!(system.perform(Action::Crash { p: 2 }), Err(Refusal(3)));
+            assert_eq!(system.perform(respond(2, 1).cut_after(1)), Err(Refusal::CutTooLate));
+            assert_eq!(system.perform(respond(2, 1).cut_after(0)), Ok(()));
+            assert_eq!(system.perform(crash(2)), Err(Refusal::Crashed));
         }
     }
     let mut system = System::fresh(1).unwrap();
-    for silent in [Action::Crash { p: 1 }, Action::Receive { q: 1, p: 1 }] {
-        let number = if silent == (Action::Crash { p: 1 }) { 12 } else { 5 };
-        assert_eq!(system.perform(silent.cut(0)), Err(Refusal(number)));
-    }
+    assert_eq!(system.perform(crash(1).cut_after(0)), Err(Refusal::CutTooLate));
+    assert_eq!(system.perform(receive(1, 1).cut_after(0)), Err(Refusal::NothingThere));
     // 255 is a count like any other above 8, in a list too.
-    let (mut one, mut listed) = (System::fresh(1).unwrap(), System::fresh(1).unwrap());
-    for action in [Action::Report { p: 1, view: 1 }, Action::Crash { p: 1 }] {
-        assert_eq!(one.perform(action.cut(WHOLE)), Err(Refusal(12)));
-        assert_eq!(listed.perform_all(&[action.cut(WHOLE)]), [Err(Refusal(12))]);
+    for action in [report(1, 1), crash(1)] {
+        let mut answers = [Ok(())];
+        assert_eq!(system.perform(action.cut_after(255)), Err(Refusal::CutTooLate));
+        assert_eq!(system.perform_into(&[action.cut_after(255)], &mut answers), 1);
+        assert_eq!(answers, [Err(Refusal::CutTooLate)]);
     }
-    assert_eq!(one, System::fresh(1).unwrap());
-    assert_eq!(listed, one);
+    assert_eq!(*system.image(), image(1));
 }
 
-/// A settling run: its steps, how it ends, and the numbers that C is told.
+/// A receive that sends, cut: a Commit goes to the first of two.
+#[test]
+fn cut_receive() {
+    let mut system = System::fresh(2).unwrap();
+    for step in [report(1, 3), receive(1, 1), receive(1, 2), respond(1, 1), respond(2, 1)] {
+        assert_eq!(system.perform(step), Ok(()));
+    }
+    assert_eq!(system.perform(receive(1, 1).cut_after(0)), Err(Refusal::CutTooLate));
+    assert_eq!(system.perform(receive(1, 1)), Ok(()));
+    assert_eq!(system.perform(receive(2, 1).cut_after(2)), Err(Refusal::CutTooLate));
+    assert_eq!(system.perform(receive(2, 1).cut_after(1)), Ok(()));
+    // The one went to process 1, which has crashed by that.
+    assert_eq!(system.perform(receive(1, 2)), Err(Refusal::NothingThere));
+    assert!(system.process(ProcessId(1)).unwrap().crashed);
+}
+
+/// A settling run: its steps, how it ends, and what it leaves.
 #[test]
 fn settling() {
     for n in 1..=8 {
@@ -254,15 +288,13 @@ fn settling() {
         let rest = |steps| Ok(Settling { steps, ending: Ending::Rest });
         assert_eq!(system.settle(), rest(0));
         assert_eq!(*system.image(), image(n));
-        assert_eq!(system.perform(Action::Report { p: 1, view: everyone(n) }), Ok(()));
-        // n Proposes, Accs and Commits are taken, and n answers given.
+        let everyone = View::first(n);
+        assert_eq!(system.perform(report(1, everyone.bits())), Ok(()));
+        // n Proposes, Accs and Commits are received, and n responses given.
         assert_eq!(system.settle(), rest(4 * u16::from(n)));
-        assert!((1..=n).all(|p| system.entry(p, 2) == Some(everyone(n))));
-        let mut told = [77; 2];
-        let mut bytes = *system.image();
-        assert_eq!(settle_into(&mut bytes, &mut told), Ok(()));
-        assert_eq!(told, [0, 0]);
-        assert_eq!(bytes, *system.image());
+        let last = Some((GroupIndex(2), everyone));
+        assert!(system.processes().all(|process| process.history.last() == last));
+        assert_eq!(system.settle(), rest(0));
     }
     assert_eq!(u32::from(MOST_STEPS), 124 * 8 * 8);
     // Held up by a Retry to 33; the other process is done with before.
@@ -273,32 +305,45 @@ fn settling() {
     send(&mut held, 1, 2, [COMMIT, 3, 4]);
     let mut system = System::from_image(held);
     assert_eq!(system.settle(), Ok(Settling { steps: 1, ending: Ending::Held }));
-    assert_eq!(system.entry(2, 4), Some(3));
-    let mut told = [77; 2];
-    assert_eq!(settle_into(&mut held, &mut told), Ok(()));
-    assert_eq!(told, [1, 1]);
+    assert_eq!(system.entry(ProcessId(2), GroupIndex(4)), Some(View::first(2)));
     // What is not sound is refused and stays.
     held[1 + 2] = 34;
-    let before = held;
-    assert_eq!(settle_into(&mut held, &mut told), Err(Refusal(1)));
-    assert_eq!(told, [0, 1]);
-    assert_eq!(settle(&mut held), Err(Refusal(1)));
-    assert_eq!(held, before);
+    let mut system = System::from_image(held);
+    assert_eq!(system.settle(), Err(Refusal::Unsound));
+    assert_eq!(*system.image(), held);
+    assert_eq!(
+        [Ending::Rest, Ending::Held, Ending::Budget].map(|end| end.to_string()),
+        ["rest", "held", "budget"]
+    );
 }
 
-/// The longest output is whole; a small buffer gets its beginning.
+/// Bytes that mean nothing may hold anything, and a refused step leaves them too.
 #[test]
-fn outputs() {
-    let mut sheet = vec![b'\n'; 60_000];
-    sheet[..3].copy_from_slice(b"u 8");
-    let mut wanted: String = (2..=59_997).map(|line| format!("{line} 8 1\n")).collect();
-    (1..=8).for_each(|p| wanted += &format!("unit {p} live next 2 1=12345678\n"));
-    assert!(run_sheet(&sheet) == wanted.as_bytes());
-    assert!(wanted.len() < OUTPUT);
-    sheet.push(b'\n');
-    assert_eq!(run_sheet(&sheet), b"0 9\n");
-    let mut out = [7; 10];
-    assert_eq!(run_sheet_into(b"u 1\ns 1\ns 1\n", &mut out[..6]), 6);
-    assert_eq!(&out, b"2 0\n3 \x07\x07\x07\x07");
-    assert_eq!(run_sheet(b""), b"");
+fn stray_bytes() {
+    let mut bytes = image(2);
+    bytes[1 + 62 * 2..497].fill(255);
+    for (q, p) in common::pairs(8) {
+        let channel = channel_at(q, p);
+        bytes[channel..channel + LENGTH].fill(255);
+        bytes[channel + LENGTH] = if q <= 2 && p <= 2 { 0 } else { 255 };
+    }
+    let mut system = System::from_image(bytes);
+    assert_eq!(system, System::fresh(2).unwrap());
+    assert_eq!(system.perform(receive(1, 2)), Err(Refusal::NothingThere));
+    assert_eq!(*system.image(), bytes);
+    assert_eq!(system.perform(report(1, 3)), Ok(()));
+    assert_eq!(system.perform(receive(1, 2)), Ok(()));
+    assert_eq!(system.entry(ProcessId(3), GroupIndex(1)), None);
+}
+
+/// To an image and back.
+#[test]
+fn conversions() {
+    let bytes: Image = std::array::from_fn(|at| at as u8);
+    let system = System::from(bytes);
+    assert_eq!(*system.image(), bytes);
+    assert_eq!(Image::from(system.clone()), bytes);
+    assert_eq!(*System::try_from(&bytes[..]).unwrap().image(), bytes);
+    assert_eq!(System::try_from(&bytes[1..]), Err(Refusal::Unsound));
+    assert_eq!(System::try_from(&[][..]), Err(Refusal::Unsound));
 }

@@ -11,20 +11,25 @@ pub mod rival;
 pub mod settled;
 pub mod sheets;
 pub mod tallied;
+pub mod told;
 pub mod ways;
 
-use reference::{Action, Step};
+use lobstercreel as ours;
+use reference::{Action, ProcessId, Step};
 use std::thread;
 
 /// The step as the library's wrapper has it.
-pub fn our_step(step: Step) -> lobstercreel::Step {
+pub fn our_step(step: Step) -> ours::Step {
+    let id = |p: ProcessId| ours::ProcessId(p.0);
     let action = match step.action {
-        Action::Report { p, view } => lobstercreel::Action::Report { p: p.0, view: view.0 },
-        Action::Receive { from, at } => lobstercreel::Action::Receive { q: from.0, p: at.0 },
-        Action::Respond { p, to } => lobstercreel::Action::Respond { p: p.0, q: to.0 },
-        Action::Crash { p } => lobstercreel::Action::Crash { p: p.0 },
+        Action::Report { p, view } => {
+            ours::Action::Report { p: id(p), view: ours::View::from_bits(view.0) }
+        }
+        Action::Receive { from, at } => ours::Action::Receive { from: id(from), at: id(at) },
+        Action::Respond { p, to } => ours::Action::Respond { p: id(p), to: id(to) },
+        Action::Crash { p } => ours::Action::Crash { p: id(p) },
     };
-    lobstercreel::Step { action, cut: step.cut }
+    step.cut.map_or(action.whole(), |k| action.cut_after(k))
 }
 
 /// What the work gives for 0 and for 1, done side by side. A difference found in either ends the test.

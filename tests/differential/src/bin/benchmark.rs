@@ -7,6 +7,7 @@ use differential::lines::line;
 use differential::our_step;
 use differential::rival::{self, rival_step};
 use lobstercreel as ours;
+use ours::raw;
 use reference::image::{decode, encode, Image};
 use reference::{Action, ProcessId, Step, System, View};
 use std::ffi::OsStr;
@@ -193,13 +194,13 @@ fn sheets(n: u8, lines: usize) {
     let sheet = text.as_bytes();
     assert!(sheet.len() <= reference::SHEET_LIMIT, "{lines} lines are too many");
     let output = reference::run_sheet(sheet);
-    assert!(ours::run_sheet(sheet) == output && rival::run_sheet(sheet) == output);
+    assert!(ours::run_sheet(sheet).as_bytes() == output && rival::run_sheet(sheet) == output);
     let times = 1 + LINES / lines;
     let time = best(
         || zeros(output.len() + 1),
         |out| {
             for _ in 0..times {
-                black_box(ours::run_sheet_into(sheet, out));
+                black_box(raw::run(sheet, out));
             }
         },
         || zeros(output.len() + 1),
@@ -241,7 +242,7 @@ fn steps(n: u8, done: bool) {
         || chosen.clone(),
         |images| {
             for (image, step) in images {
-                let _ = black_box(ours::step(image, our_step(*step)));
+                black_box(raw::perform(image, our_step(*step)));
             }
         },
         || chosen.clone(),
@@ -262,18 +263,17 @@ fn settling(what: &str, before: &[Action]) {
     let start = encode(&system);
     let wanted = reference::settle(&mut system);
     let (mut ours_after, mut rivals_after) = (start, start);
-    let ours = ours::settle(&mut ours_after).expect("a sound image");
+    let mut told = [0; 2];
+    assert_eq!(raw::settle(&mut ours_after, &mut told), 0, "a sound image");
     let (number, steps, _) = rival::settle_on(&mut rivals_after);
     assert!(number == 0 && usize::from(steps) == wanted.steps);
-    assert!(
-        ours.steps == steps && decode(&ours_after) == system && decode(&rivals_after) == system
-    );
+    assert!(told[0] == steps && decode(&ours_after) == system && decode(&rivals_after) == system);
     let images = || vec![start; TIMES];
     let (ours, rival) = best(
         images,
         |images| {
             for image in images {
-                let _ = black_box(ours::settle(image));
+                black_box(raw::settle(image, &mut [0; 2]));
             }
         },
         images,
@@ -313,7 +313,7 @@ fn class(ours: &OsStr, reference: &OsStr) {
         let mut out = zeros(100_000);
         let start = Instant::now();
         for sheet in sheets.iter().cycle().take(64) {
-            black_box(ours::run_sheet_into(sheet.as_bytes(), &mut out));
+            black_box(raw::run(sheet.as_bytes(), &mut out));
         }
         best[2] = best[2].min(start.elapsed());
     }
@@ -345,12 +345,12 @@ fn list(n: u8) {
     let refused = run.iter().filter(|(system, step)| !is_done(system, *step)).count() / 10;
     let quiet = run.iter().filter(|(_, step)| is_quiet(*step)).count() / 10;
     let steps: Vec<Step> = run.into_iter().map(|(_, step)| step).collect();
-    let bytes: Vec<u8> = steps.iter().flat_map(|&step| our_step(step).bytes()).collect();
+    let bytes: Vec<u8> = steps.iter().flat_map(|&step| our_step(step).to_bytes()).collect();
     let rivals: Vec<rival::Step> = steps.iter().map(|&step| rival_step(step)).collect();
     let start = encode(&reference::fresh(n).1);
     let (mut ours_after, mut rivals_after) = (start, start);
     let (mut ours_numbers, mut rivals_numbers) = ([0; 1_000], [0; 1_000]);
-    ours::steps_into(&mut ours_after, &bytes, &mut ours_numbers);
+    raw::steps(&mut ours_after, &bytes, &mut ours_numbers);
     rival::steps_on(&mut rivals_after, &rivals, &mut rivals_numbers);
     assert!(ours_numbers == rivals_numbers && decode(&ours_after) == decode(&rivals_after));
     let images = || vec![(start, [0; 1_000]); 20];
@@ -358,7 +358,7 @@ fn list(n: u8) {
         images,
         |images| {
             for (image, numbers) in images {
-                black_box(ours::steps_into(image, &bytes, numbers));
+                black_box(raw::steps(image, &bytes, numbers));
             }
         },
         images,

@@ -11,12 +11,12 @@ use differential::poised::{disturb, poise};
 use differential::rival;
 use differential::settled::{crowd, jam, race, rivals, settling_way, Turn};
 use differential::sheets::{line_count, written, Sheet};
+use differential::told::{alike, tells};
 use differential::ways::{way, By, Ways, AT_LEAST};
 use lobstercreel as ours;
+use ours::raw;
 use reference::image::{decode, encode, Image, SIZE};
-use reference::{
-    number, sound, Action, Ending, GroupIndex, ProcessId, Settling, Step, System, SHEET_LIMIT,
-};
+use reference::{number, sound, Action, Ending, ProcessId, Settling, Step, System, SHEET_LIMIT};
 
 /// How many of each part, with the seeds 0 to one less.
 const RUNS: u64 = 4_000;
@@ -62,10 +62,6 @@ fn each(seeds: u64, part: fn(u64, &mut Ways)) -> Ways {
     ways
 }
 
-fn our_number(answer: ours::Answer) -> u8 {
-    answer.map_or_else(|refusal| refusal.0, |()| 0)
-}
-
 /// What the papers say of a step on an image: the number, and the system after it.
 fn expected(image: &Image, step: Step, ways: &mut Ways) -> (u8, System) {
     let before = decode(image);
@@ -82,7 +78,7 @@ fn our_answer(image: &mut Image, step: Step) -> u8 {
     let mut memory = [GUARD; SIZE + 2 * MARGIN];
     let lent = &mut memory[MARGIN..MARGIN + SIZE];
     lent.copy_from_slice(image);
-    let number = our_number(ours::step(lent, our_step(step)));
+    let number = raw::perform(lent, our_step(step));
     image.copy_from_slice(lent);
     assert!(memory[..MARGIN].iter().chain(&memory[MARGIN + SIZE..]).all(|&byte| byte == GUARD));
     number
@@ -94,6 +90,7 @@ fn compare(image: &mut Image, step: Step, seed: u64, ways: &mut Ways) -> u8 {
     let mut rivals = *image;
     let answer = (our_answer(image, step), *image);
     judge("the library", &before, answer, &wanted, step, seed);
+    alike(&before, image, seed);
     let answer = (rival::step_on(&mut rivals, rival::rival_step(step)), rivals);
     judge("the rival", &before, answer, &wanted, step, seed);
     wanted.0
@@ -119,13 +116,15 @@ fn our_settling(image: &mut Image) -> (u8, [u16; 2]) {
     let lent = &mut memory[MARGIN..MARGIN + SIZE];
     lent.copy_from_slice(image);
     let mut told = [u16::MAX; 2];
-    let number = our_number(ours::settle_into(lent, &mut told));
-    let result = ours::settle(&mut image.clone()).map(|told| (told.steps, told.ending));
+    let number = raw::settle(lent, &mut told);
+    let mut system = ours::System::from_image(*image);
+    let result = system.settle().map(|told| (told.steps, told.ending));
     image.copy_from_slice(lent);
+    assert!(image == system.image());
     assert!(memory[..MARGIN].iter().chain(&memory[MARGIN + SIZE..]).all(|&byte| byte == GUARD));
     // The wrapper's words are those numbers.
     let word = [ours::Ending::Rest, ours::Ending::Held, ours::Ending::Budget][usize::from(told[1])];
-    let wanted = if number == 0 { Ok((told[0], word)) } else { Err(ours::Refusal(number)) };
+    let wanted = ours::Refusal::from_number(number).map_or(Ok((told[0], word)), Err);
     assert_eq!(result, wanted);
     (number, told)
 }
@@ -216,8 +215,14 @@ fn fresh_systems(ways: &mut Ways) {
     for n in 0..=u8::MAX {
         let (outcome, system) = reference::fresh(n);
         let mut image = [GUARD; SIZE];
-        assert_eq!(our_number(ours::fresh(&mut image, n)), number(outcome), "fresh {n}");
+        assert_eq!(raw::fresh(&mut image, n), number(outcome), "fresh {n}");
         assert!(decode(&image) == system, "fresh {n}");
+        // The wrapper gives the same system, in its error too.
+        let ours = ours::System::fresh(n);
+        assert_eq!(ours.is_err(), outcome.is_err(), "fresh {n}");
+        let ours = ours.unwrap_or_else(|wrong| wrong.system());
+        assert!(decode(ours.image()) == system, "fresh {n}");
+        tells(ours.image(), n.into());
         if outcome.is_err() {
             ways.count(By::Image, "2 fresh");
         }
@@ -245,7 +250,7 @@ fn run(seed: u64, ways: &mut Ways) {
         };
         done.push((step, number));
     }
-    entries(&image, seed);
+    tells(&image, seed);
     as_lists(&mut dice, encode(&reference::fresh(n).1), &done, &decode(&image), seed, ways);
 }
 
@@ -269,7 +274,7 @@ fn as_lists(
                 wanted.push(8);
                 ways.count(By::Image, "8 unknown kind in a list");
             }
-            list.extend(our_step(step).bytes());
+            list.extend(our_step(step).to_bytes());
             wanted.push(number);
         }
         if dice.one_in(4) {
@@ -280,7 +285,7 @@ fn as_lists(
         // Where places lack, only so many are done, and nothing past them is written.
         let past = dice.roll(3);
         let mut numbers = vec![GUARD; wanted.len() + past];
-        let count = ours::steps_into(&mut image, &list, &mut numbers);
+        let count = raw::steps(&mut image, &list, &mut numbers);
         assert_eq!(count, wanted.len(), "seed {seed}: how many of a list");
         wanted.resize(count + past, GUARD);
         assert_eq!(numbers, wanted, "seed {seed}: the numbers of a list");
@@ -293,34 +298,27 @@ fn as_lists(
 
 /// As many steps of a list are done as there are places for their numbers.
 fn places_lack(dice: &mut Dice, image: &Image, list: &[(Step, u8)], seed: u64, ways: &mut Ways) {
-    let bytes: Vec<u8> = list.iter().flat_map(|&(step, _)| our_step(step).bytes()).collect();
+    let bytes: Vec<u8> = list.iter().flat_map(|&(step, _)| our_step(step).to_bytes()).collect();
     let places = dice.roll(list.len());
     let mut system = decode(image);
     let wanted: Vec<u8> =
         list[..places].iter().map(|&(step, _)| number(step.run(&mut system))).collect();
     let (mut after, mut numbers) = (*image, vec![GUARD; places]);
-    assert_eq!(ours::steps_into(&mut after, &bytes, &mut numbers), places, "seed {seed}");
+    assert_eq!(raw::steps(&mut after, &bytes, &mut numbers), places, "seed {seed}");
     assert!(numbers == wanted && decode(&after) == system, "seed {seed}: {places} places");
     ways.count(By::Image, "list with too few places");
 }
 
 /// Does the step on an image with any bytes where they mean nothing.
 fn littered(dice: &mut Dice, image: &mut Image, step: Step, seed: u64, ways: &mut Ways) -> u8 {
+    let before = *image;
     litter(dice, image);
+    tells(image, seed);
+    alike(&before, image, seed);
     let number = compare(image, step, seed, ways);
     let done = number == 0;
     ways.count(By::Image, if done { "0 among stray bytes" } else { "refused among stray bytes" });
     number
-}
-
-/// The wrapper reads the same histories, and none of processes and positions that there are not.
-fn entries(image: &Image, seed: u64) {
-    let (ours, system) = (ours::System::from_image(*image), decode(image));
-    for (p, i) in (0..=u8::MAX).flat_map(|p| (0..=40).map(move |i| (p, i))) {
-        let there = (1..=system.n).contains(&p) && (1..=32).contains(&i);
-        let entry = there.then(|| system.process(ProcessId(p)).entry(GroupIndex(i)).0);
-        assert_eq!(ours.entry(p, i), entry.filter(|&view| view != 0), "seed {seed}: {p} at {i}");
-    }
 }
 
 /// A system of n processes that some steps have left.
@@ -353,6 +351,8 @@ fn handed_in(seed: u64, ways: &mut Ways) {
         image[0] = if dice.one_in(2) { n } else { image[0] };
         return refused_with_1(&mut dice, image, seed, "1 any bytes", ways);
     }
+    tells(&image, seed);
+    alike(&encode(&system), &image, seed);
     compare(&mut image.clone(), due, seed, ways);
     littered(&mut dice, &mut image.clone(), due, seed, ways);
     for _ in 0..10 {
@@ -387,6 +387,7 @@ fn damaged(seed: u64, ways: &mut Ways) {
 }
 
 fn refused_with_1(dice: &mut Dice, image: Image, seed: u64, name: &'static str, ways: &mut Ways) {
+    tells(&image, seed);
     for _ in 0..4 {
         let step = dice.any_step(8);
         assert_eq!(compare(&mut image.clone(), step, seed, ways), 1, "seed {seed}: {name}");
@@ -409,11 +410,11 @@ fn wrong_lengths(ways: &mut Ways) {
             Action::Respond { p: one, to: two },
             Action::Crash { p: one },
         ] {
-            assert_eq!(our_number(ours::step(image, our_step(step.into()))), 1, "length {length}");
+            assert_eq!(raw::perform(image, our_step(step.into())), 1, "length {length}");
         }
-        assert_eq!(our_number(ours::fresh(image, 3)), 1, "length {length}");
+        assert_eq!(raw::fresh(image, 3), 1, "length {length}");
         let mut told = [u16::MAX; 2];
-        assert_eq!(our_number(ours::settle_into(image, &mut told)), 1, "length {length}");
+        assert_eq!(raw::settle(image, &mut told), 1, "length {length}");
         assert_eq!(told, [0, 1], "length {length}");
         assert!(memory == before, "length {length}");
         ways.count(By::Image, "1 wrong length");
@@ -425,7 +426,7 @@ fn sheet(seed: u64, ways: &mut Ways) {
     let mut dice = Dice::new(seed ^ 0x5eed);
     let sheet = written(&mut dice, 1 + (seed % 8) as u8);
     let wanted = reference::run_sheet(&sheet.text);
-    assert!(ours::run_sheet(&sheet.text) == wanted, "seed {seed}: the outputs differ");
+    assert!(ours::run_sheet(&sheet.text).as_bytes() == wanted, "seed {seed}: the outputs differ");
     assert!(rival::run_sheet(&sheet.text) == wanted, "seed {seed}: the rival's output differs");
     count_lines(&sheet, &wanted, seed, ways);
     let short = dice.roll(wanted.len() + 1);
@@ -470,7 +471,7 @@ fn count_lines(sheet: &Sheet, wanted: &[u8], seed: u64, ways: &mut Ways) {
 /// A buffer gets as much of the output as it has room for, and nothing past that is written.
 fn in_room(sheet: &[u8], wanted: &[u8], room: usize, ways: &mut Ways) {
     let mut memory = vec![GUARD; room + MARGIN];
-    let written = ours::run_sheet_into(sheet, &mut memory[..room]);
+    let written = raw::run(sheet, &mut memory[..room]);
     assert_eq!(written, room.min(wanted.len()), "room {room}");
     assert!(memory[..written] == wanted[..written], "room {room}");
     assert!(memory[written..].iter().all(|&byte| byte == GUARD), "room {room}");
