@@ -8,11 +8,12 @@ import socket
 import resource
 import shutil
 import stat
+import subprocess
 import tempfile
 import threading
 import time
 
-from running import FOLDER, K1, PATIENCE, check, closed_pipe, in_pieces, shown
+from running import FOLDER, K1, PATIENCE, check, closed_pipe, expect, in_pieces, shown
 
 NAMES_UNREAD = b"tally: the names cannot be read\n"
 TALLY_UNWRITTEN = b"tally: the output cannot be written\n"
@@ -213,8 +214,10 @@ def tally_in(folder):
 
     check("a directory for the names", "tally", b"", NAMES_UNREAD, stdin=os.open(".", os.O_RDONLY), cwd=folder)
     check("names that cannot be read", "tally", b"", NAMES_UNREAD, stdin=os.open(os.devnull, os.O_WRONLY), cwd=folder)
-    # A name that comes byte by byte takes more reads than the program has turns: that is told, and no name is passed over in silence.
-    check("a name in 70,000 reads", "tally", b"", NAMES_UNREAD, stdin=crumbs(b"x" * 70_000 + b"\nK1.sheet\n"), cwd=folder)
+    # A name that comes byte by byte takes as many reads as it has bytes.
+    far = b"x" * 255 + b" unopened\n" + counted(b"K1.sheet", K1_COUNTS) + counted(b"all", K1_COUNTS)
+    check("a name in 70,000 reads", "tally", far, stdin=crumbs(b"x" * 70_000 + b"\nK1.sheet\n"), cwd=folder)
+    line_by_line(folder)
     given = dict(pieces=[b"K1.sheet\nnone\n"], cwd=folder)
     full = os.open("/dev/full", os.O_WRONLY)
     check("a full device as output", "tally", None, TALLY_UNWRITTEN, stdout=full, **given)
@@ -223,6 +226,23 @@ def tally_in(folder):
     check("an output that cannot be written", "tally", None, TALLY_UNWRITTEN, stdout=os.open(os.devnull, os.O_RDONLY), **given)
     check("a closed pipe as output", "tally", None, TALLY_UNWRITTEN, stdout=closed_pipe(), sigpipe=False, **given)
     check("the same, where the system may end it", "tally", None, TALLY_UNWRITTEN, stdout=closed_pipe(), **given)
+
+
+def line_by_line(folder):
+    """Each line is written as soon as its sheet is counted: it is there before the next name is given."""
+    process = subprocess.Popen(
+        [os.path.abspath(os.path.join(FOLDER, "tally"))], stdin=subprocess.PIPE, stdout=subprocess.PIPE, cwd=folder
+    )
+    ender = threading.Timer(PATIENCE, process.kill)
+    ender.start()
+    for name, line in ((b"K1.sheet", counted(b"K1.sheet", K1_COUNTS)), (b"none", b"none unopened\n")):
+        process.stdin.write(name + b"\n")
+        process.stdin.flush()
+        expect(f"{name!r}, before another name is given", "standard output", process.stdout.readline(), line)
+    process.stdin.close()
+    expect("after the last name", "standard output", process.stdout.read(), counted(b"all", K1_COUNTS))
+    expect("after the last name", "status", process.wait(), 0)
+    ender.cancel()
 
 
 def crumbs(data):

@@ -86,8 +86,8 @@ pub fn read_input<R: Read>(reader: &mut R, buf: &mut [u8]) -> Result<usize, Read
     Ok(done)
 }
 
-// Turns enough for 4 GiB by full reads.
-const SKIP_LIMIT: u32 = 65_536;
+// Every loop has to end, and no input takes so many reads.
+const SKIP_LIMIT: u64 = 1 << 63;
 
 // Reads the rest of an input that is too long, so that whoever writes it is not cut off. What comes is
 // dropped, and nothing is answered.

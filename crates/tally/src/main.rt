@@ -18,8 +18,8 @@ use tallies::Tally;
 // Names past this one are not read.
 const NAMES: u32 = 64;
 
-// Turns enough for a name of 4 GiB by full reads.
-const CHUNK_LIMIT: u32 = 65_536;
+// Every loop has to end, and no name takes so many reads.
+const CHUNK_LIMIT: u64 = 1 << 63;
 
 // Room for a name and one byte more, by which a long name shows.
 const NAME_ROOM: usize = NAME_LIMIT + 1;
