@@ -10,8 +10,7 @@ use Rattle.tallies.specs.Share.{share_of}
 use Rattle.print.specs.Text.{bytes}
 use Rattle.print.proofs.Bounds.{AtMost, both, twenty_digits}
 use Rattle.class.specs.declared.Uncounted.TheVariants.{Unopened, TooLong}
-use Rattle.class.specs.declared.TheConstants.{LINE_LIMIT}
-use Rattle.class.specs.Class.{Finding, name_limit, share_text, counts_text, finding_text, name_line}
+use Rattle.class.specs.Class.{Finding, name_limit, share_text, counts_text, finding_text, name_line, line_limit}
 
 record Words : Type 0 where
   sent : AtMost 6 (bytes " sent ")
@@ -63,6 +62,6 @@ finding_length (Err TooLong) = words.long
 name_length : (name : List ℕ) → AtMost name_limit (take name_limit name)
 name_length name = record { bytes_are = simp length-take (omega arith) }
 
-pub line_length_lem : (name : List ℕ) (f : Finding) → length (name_line name f) ≤ LINE_LIMIT
+pub line_length_lem : (name : List ℕ) (f : Finding) → length (name_line name f) ≤ line_limit
 unfolding name_line
 line_length_lem name f = (both (both (name_length name) (finding_length f)) words.feed).bytes_are

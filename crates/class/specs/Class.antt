@@ -46,6 +46,10 @@ finding_text (Err TooLong) = bytes " long"
 abbrev pub name_limit : ℕ
 name_limit = 255
 
+-- the bytes of the longest line (`line_length_lem`)
+abbrev pub line_limit : ℕ
+line_limit = 412
+
 unfoldable pub name_line : List ℕ → Finding → List ℕ
 name_line name finding = take name_limit name ++ finding_text finding ++ bytes "\n"
 

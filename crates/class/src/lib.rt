@@ -6,7 +6,7 @@ ghost use Rattle.tallies.specs.Share.{share_of};
 ghost use Rattle.print.specs.Text.{decimal};
 ghost use Rattle.print.specs.Page.{typed_on, StandsFirst};
 ghost use Rattle.run.specs.Output.{sheet_tally};
-ghost use Rattle.class.specs.Class.{name_limit, share_text, counts_text, finding_text, name_line, named, finding_of, adds_of, lined, all_line};
+ghost use Rattle.class.specs.Class.{name_limit, share_text, counts_text, finding_text, name_line, named, finding_of, adds_of, lined, all_line, line_limit};
 
 pub mod names;
 
@@ -82,7 +82,7 @@ fn put_line(page: &mut Page, name: &[u8], finding: Result<Tally, Uncounted>)
 // The line of a name, printed into a buffer that has room for it: it is the buffer's first bytes, as
 // many as the answer says, and the others stay.
 fn print_line(name: &[u8], finding: Result<Tally, Uncounted>, out: &mut [u8; LINE_LIMIT]) -> usize
-    ensures { StandsFirst LINE_LIMIT (name_line name.now finding) result out.old out.new }
+    ensures { StandsFirst line_limit (name_line name.now finding) result out.old out.new }
 {
     let mut page = Page::new(out, 0);
     put_line(&mut page, name, finding);
@@ -134,7 +134,7 @@ pub fn print_name(
     sheet: Option<&[u8]>,
     out: &mut [u8; LINE_LIMIT],
 ) -> ClassLine
-    ensures line { StandsFirst LINE_LIMIT (lined total (named name.now sheet.entry)).text result.end out.old out.new }
+    ensures line { StandsFirst line_limit (lined total (named name.now sheet.entry)).text result.end out.old out.new }
     ensures total { result.total ≡ (lined total (named name.now sheet.entry)).total }
 {
     let finding = find(name, sheet);
@@ -146,7 +146,7 @@ pub fn print_name(
 
 // The last line, for all names together.
 pub fn print_all(total: Tally, out: &mut [u8; LINE_LIMIT]) -> usize
-    ensures { StandsFirst LINE_LIMIT (all_line total) result out.old out.new }
+    ensures { StandsFirst line_limit (all_line total) result out.old out.new }
 {
     print_line(b"all", Ok(total), out)
 }

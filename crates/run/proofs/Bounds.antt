@@ -33,8 +33,7 @@ use Rattle.sheet.proofs.Forms.{column_from_1}
 use Rattle.sheet.proofs.FirstBytes.{nothing_said}
 use Rattle.sheet.proofs.GoodLines.{bad_first_column, bad_column}
 use Rattle.view.specs.Logic.{at}
-use Rattle.run.specs.declared.TheConstants.{OUTPUT_ROOM}
-use Rattle.run.specs.Output.{bad_line, answered, ending_text, settled_as, line_done, printed_then, printed_from, bad_from, started_by, lines_output, output, sheet_limit}
+use Rattle.run.specs.Output.{bad_line, answered, ending_text, settled_as, line_done, printed_then, printed_from, bad_from, started_by, lines_output, output, sheet_limit, output_limit}
 
 -- ---- every number has at most two digits
 unfoldable below : ℕ → List ℕ → Bool
@@ -107,7 +106,7 @@ bad_length k (l ∷ ls) h =
     rw (length-append (column_line k 8 0) (bad_from (suc k) ls))
     (omega (arith, column-length 0 k 8 0 (omega arith) (omega arith) (omega arith), bad_length (suc k) ls (omega arith)))
 
-started_length : (l : List ℕ) (ls : List (List ℕ)) (x : Result ℕ BadFrom) → opened l ≡ x → suc (length l) + weight ls ≤ sheet_limit + 1 → length (started_by x ls) ≤ OUTPUT_ROOM
+started_length : (l : List ℕ) (ls : List (List ℕ)) (x : Result ℕ BadFrom) → opened l ≡ x → suc (length l) + weight ls ≤ sheet_limit + 1 → length (started_by x ls) ≤ output_limit
 unfolding started_by bad_line meaning_first at
 started_length l ls (Ok n) e w = omega (arith, few_lines ls, printed_length 2 (fresh_system n) ls (omega (arith, few_lines ls)) (omega arith))
 started_length l ls (Err bad) e w =
@@ -119,15 +118,15 @@ started_length l ls (Err bad) e w =
       bad_length 2 ls (omega (arith, few_lines ls)),
     ))
 
-lines_length : (ls : List (List ℕ)) → weight ls ≤ sheet_limit + 1 → length (lines_output ls) ≤ OUTPUT_ROOM
+lines_length : (ls : List (List ℕ)) → weight ls ≤ sheet_limit + 1 → length (lines_output ls) ≤ output_limit
 unfolding lines_output weight
 lines_length [] h = omega arith
 lines_length (l ∷ ls) h = started_length l ls (opened l) refl h
 
 -- a buffer of so many bytes has room for what is printed for any sheet
-pub output-length : (sheet : List ℕ) → length (output sheet) ≤ OUTPUT_ROOM
+pub output-length : (sheet : List ℕ) → length (output sheet) ≤ output_limit
 unfolding output bytes
 output-length sheet =
-    by_pick (λ (t : List ℕ). length t ≤ OUTPUT_ROOM) (ltb sheet_limit (length sheet)) _ _
+    by_pick (λ (t : List ℕ). length t ≤ output_limit) (ltb sheet_limit (length sheet)) _ _
     (λ e. omega arith)
     (λ e. lines_length (lines_of sheet) (omega (arith, few_bytes sheet, ltb-false sheet_limit (length sheet) e)))

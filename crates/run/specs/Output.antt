@@ -89,6 +89,10 @@ lines_output (l ∷ ls) = started_by (opened l) ls
 abbrev pub sheet_limit : ℕ
 sheet_limit = 60000
 
+-- the room that is enough for what is printed for any sheet (`output-length`)
+abbrev pub output_limit : ℕ
+output_limit = 603400
+
 unfoldable pub output : List ℕ → List ℕ
 output sheet = pick (ltb sheet_limit (length sheet)) (bytes "0 9\n") (lines_output (lines_of sheet))
 

@@ -8,7 +8,7 @@ ghost use Rattle.system.specs.Fresh.{fresh_system};
 ghost use Rattle.print.specs.Page.{page, typed, typed_on, StandsFirst};
 ghost use Rattle.sheet.specs.Grammar.{bad_from};
 ghost use Rattle.sheet.specs.Reader.{lines_left};
-ghost use Rattle.run.specs.Output.{printed_from, started_by, output, tallied_from, sheet_tally, sheet_limit};
+ghost use Rattle.run.specs.Output.{printed_from, started_by, output, tallied_from, sheet_tally, sheet_limit, output_limit};
 
 mod lines;
 
@@ -95,7 +95,7 @@ pub fn run_sheet(sheet: &[u8], out: &mut [u8]) -> usize
 // A whole sheet, printed into a buffer that has room for it: what is printed is the buffer's first
 // bytes, as many as the answer says, and the others stay.
 pub fn print_sheet(sheet: &[u8], out: &mut [u8; OUTPUT_ROOM]) -> usize
-    ensures { StandsFirst OUTPUT_ROOM (output sheet.now) result out.old out.new }
+    ensures { StandsFirst output_limit (output sheet.now) result out.old out.new }
 {
     run_sheet(sheet, out)
 }

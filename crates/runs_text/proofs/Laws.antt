@@ -9,10 +9,9 @@ use Rattle.std.specs.Prelude.{Result, Ok, Err}
 use Rattle.system.specs.declared.refusal.Refusal.{Refusal}
 use Rattle.system.specs.Refusal.{number}
 use Rattle.orders.specs.declared.RunCounts.{RunCounts}
-use Rattle.runs_text.specs.RunsText.{walk_text}
-use Rattle.runs_text.specs.declared.TheConstants.{OUTPUT_ROOM}
+use Rattle.runs_text.specs.RunsText.{walk_text, answer_limit}
 
-pub walk_length : (w : Result RunCounts Refusal) → length (walk_text w) ≤ OUTPUT_ROOM
+pub walk_length : (w : Result RunCounts Refusal) → length (walk_text w) ≤ answer_limit
 unfolding walk_text bytes
 walk_length (Ok w) =
     let runs = decimal w.runs in

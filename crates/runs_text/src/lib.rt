@@ -3,7 +3,7 @@
 
 ghost use Rattle.std.specs.Prelude.{◌≡◌};
 ghost use Rattle.print.specs.Page.{typed_on, StandsFirst};
-ghost use Rattle.runs_text.specs.RunsText.{walk_for, walk_text, runs_output};
+ghost use Rattle.runs_text.specs.RunsText.{walk_for, walk_text, runs_output, answer_limit};
 
 use orders::{RunCounts, count_runs};
 use print::Page;
@@ -44,7 +44,7 @@ pub const OUTPUT_ROOM: usize = 42;
 // What is printed for an input, into a buffer that has room for it: the buffer's first bytes, as many
 // as the answer says; the others stay.
 pub fn print_runs(input: &[u8], out: &mut [u8; OUTPUT_ROOM]) -> usize
-    ensures { StandsFirst OUTPUT_ROOM (runs_output input.now) result out.old out.new }
+    ensures { StandsFirst answer_limit (runs_output input.now) result out.old out.new }
 {
     let mut page = Page::new(out, 0);
     put_walk(&mut page, walk_for(input));
