@@ -15,7 +15,7 @@ ghost use Rattle.counting.specs.Tallied.{counted, Counts};
 use channel::Message;
 use engine::attempt;
 use image::{front_at, length_at, pending_at, size, trust_at, variables_at};
-use plan::plans::{cut_by, plan_from, scope_of};
+use plan::plans::{self, cut_by, scope_of};
 use plan::{Action, Plan, Scope, Step};
 use system::refusal::Refusal;
 use tallies::Tally;
@@ -109,20 +109,25 @@ fn plan_counts(c: Scope, a: Plan, before: GroupIndex, lost: u64) -> Tally
     }
 }
 
-// What the acting process plans if it is not cut.
-#[tactic(auto, unfolding(step::specs::Step::plan_of))]
+// What the acting process plans if it is not cut. A match, and not `plan_from`: to read what the action does
+// not ask for takes a settling run a tenth more.
+#[tactic(auto, unfolding(step::specs::Step::plan_of, plan::specs::Scope::scope_of))]
 fn plan_of(image: &[u8], o: Action) -> Result<Plan, Refusal>
     ensures { planned_of (variables_at (system_in image.now) (scope_of o).actor.0) result ≡ plan_of (system_in image.now) o }
 {
-    let c = scope_of(o);
-    plan_from(
-        size(image),
-        o,
-        variables_at(image, c.actor),
-        trust_at(image, c.actor),
-        front_at(image, c.partner, c.actor),
-        pending_at(image, c.actor, c.partner),
-    )
+    match o {
+        Action::Report(p, view) => {
+            let x = variables_at(image, p);
+            plans::report_plan(size(image), p, view, x, trust_at(image, p))
+        }
+        Action::Receive(q, p) => {
+            plans::receive_plan(q, p, variables_at(image, p), front_at(image, q, p))
+        }
+        Action::Respond(p, q) => {
+            plans::respond_plan(q, variables_at(image, p), pending_at(image, p, q))
+        }
+        Action::Crash(p) => Ok(plans::crash_plan(variables_at(image, p))),
+    }
 }
 
 // What a step counts if it is done: asked before it is. A step whose plan is refused is not done.

@@ -5,7 +5,8 @@ use Rattle.tallies.specs.declared.Tally.{Tally}
 use Rattle.plan.specs.declared.Action.TheVariants.{Report, Receive, Respond, Crash}
 use Rattle.plan.specs.Cut.{whole, cut_after}
 use Rattle.events.specs.Event.{Event, does}
-use Rattle.events.specs.Counts.{fresh_tally}
+use Rattle.system.specs.Fresh.{fresh_of}
+use Rattle.events.specs.Counts.{done_tally, fresh_tally}
 
 -- ---- the lines of a sheet
 abbrev process : ℕ → ProcessId
@@ -49,8 +50,9 @@ short_tallies =
     ∷ fresh_tally 2 (report_cut 1 3 0 ∷ [])
     -- the take that would commit, cut before the first Commit: the Acc is taken
     ∷ fresh_tally 1 (r 1 1 ∷ t 1 1 ∷ a 1 1 ∷ take_cut 1 1 0 ∷ [])
-    -- a take from an empty channel is refused
+    -- a take from an empty channel is refused, and counts nothing, asked of it alone too
     ∷ fresh_tally 1 (t 1 1 ∷ [])
+    ∷ done_tally (fresh_of 1).system (whole (Receive (process 1) (process 1)))
     ∷ []
 
 abbrev pub ShortlyTallied : Type 0
@@ -59,5 +61,6 @@ ShortlyTallied =
     ∷ counting 2 0 1 1 1 0
     ∷ counting 0 0 0 0 1 0
     ∷ counting 2 2 0 0 1 0
+    ∷ counting 0 0 0 0 0 0
     ∷ counting 0 0 0 0 0 0
     ∷ []
