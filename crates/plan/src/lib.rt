@@ -105,8 +105,8 @@ impl Scope {
 }
 
 // What becomes of the acting process: its variables; what it has recorded from the proposer, where
-// that is not 0; its history's entry at the index, where that is not 0. The definitions' own record, which counting's
-// functions promise. No Options in it: what is put at number 0 changes nothing in any table, so that a case more says nothing more.
+// that is not 0; its history's entry at the index, where that is not 0. The definitions' own record, which the
+// functions of plans.rt promise. No Options in it: what is put at number 0 changes nothing in any table, so that a case more says nothing more.
 #[derive(Clone, Copy)]
 pub struct Change {
     pub variables: Variables,

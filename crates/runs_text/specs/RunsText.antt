@@ -16,7 +16,6 @@ use Rattle.orders.specs.Orders.{walked}
 abbrev pub answer_limit : ℕ
 answer_limit = 42
 
-
 -- one line of three bytes, and nothing after it: "Lines end with a line feed, which the last may lack."
 unfoldable pub three_bytes : List ℕ → Bool
 three_bytes b = eqb (length b) 3 || (eqb (length b) 4 && is_feed (get_or b 3 0))

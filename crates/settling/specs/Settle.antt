@@ -86,7 +86,7 @@ nothing_to_do s = none_done s.n s Takes && none_done s.n s Answers
 unfoldable pub ending_of : ℕ → Progress → Ending
 ending_of budget x = unless (ltb x.steps budget || nothing_to_do x.system) Budget (pick (at_rest x.system) Rest Held)
 
--- "The budget"
+-- "it stops after 7,936 steps done at the latest"
 abbrev pub settling_budget : ℕ
 settling_budget = 7936
 
