@@ -30,7 +30,7 @@ use Rattle.plan.specs.Plan.{Planned, assigning, sending, quietly, refusing, doub
 use Rattle.plan.specs.Cut.{reach_of, only_whole, within_reach, cut_by}
 use Rattle.plan.proofs.Cuts.{cut_reaches}
 use Rattle.step.specs.Step.{suspected_if_named, doubted, changed_at, crashed_at, crashed_if, effected, carried_out}
-use Rattle.image.specs.Image.{system_in}
+use Rattle.image.specs.Image.{system_in, Becomes}
 use Rattle.alternatives.specs.Gives.{Gives, with_room}
 
 -- ---- nobody is named
@@ -70,14 +70,14 @@ cut_refusing (After j) r x = rw (some_number r)
 
 module _ (b : List ℕ) (o : Outcome) where
   pub refused_gives : (r : Refusal) → o ≡ refused (number r) (system_in b) → Gives o b (number r) b
-  refused_gives r e = record { outcome = sym e; kept = λ h. refl }
+  refused_gives r e = record { outcome = sym e; kept = λ h. refl; other_length = λ h. refl }
 
   -- the same, of what a `?` answers
   pub answer_gives : (x : Result (Unit {0}) Refusal) (r : Refusal) → IsErrAnd x (λ y. y ≡ r) → o ≡ refused (number r) (system_in b) → Gives o b (answer_number x) b
   answer_gives x r passed e = let y = err_from_is_err_and x passed in rw (y.1, y.2) (refused_gives r e)
 
-  pub done_gives : (d : List ℕ) (t : System) → o ≡ done t → system_in d ≡ t → Gives o b 0 d
-  done_gives d t e f = record { outcome = sym (e ∙ ap done (sym f)); kept = λ h. absurd (h refl) }
+  pub done_gives : (d : List ℕ) (t : System) → o ≡ done t → Becomes t b d → Gives o b 0 d
+  done_gives d t e f = record { outcome = sym (e ∙ ap done (sym f.system)); kept = λ h. absurd (h refl); other_length = f.kept }
 
 module _ (b : List ℕ) (t : System) (p : ℕ) where
   refusing_out : (r : Refusal) (x : Variables) → carried_out (system_in b) t p (refusing (number r) x) ≡ refused (number r) (system_in b)
@@ -110,7 +110,7 @@ module _ (b : List ℕ) (t : System) (p : ℕ) where
     not_sent x r passed told = answer_gives b _ x r passed (rw (← told) at sending_out)
 
     pub sent_done : (x : Reach) (d : List ℕ) → Ok x ≡ with_room t p (reach_of cut to)
-        → system_in d ≡ crashed_if x.stops (broadcasted (changed_at (doubted t p suspects) p c) p x.addressees m) p
+        → Becomes (crashed_if x.stops (broadcasted (changed_at (doubted t p suspects) p c) p x.addressees m) p) b d
         → Gives (carried_out (system_in b) t p (cut_by cut sends)) b 0 d
     unfolding sent_as
     sent_done x d told goes = done_gives b _ d _ (rw (← told) at sending_out) goes
@@ -131,7 +131,7 @@ module _ (b : List ℕ) (t : System) (p : ℕ) where
     unfolding quiet_as
     not_quiet x r passed told = answer_gives b _ x r passed (rw (← told) at (quiet_out cut suspects c))
 
-    pub quiet_done : (x : Unit {0}) (d : List ℕ) → Ok x ≡ only_whole cut → system_in d ≡ changed_at (doubted t p suspects) p c
+    pub quiet_done : (x : Unit {0}) (d : List ℕ) → Ok x ≡ only_whole cut → Becomes (changed_at (doubted t p suspects) p c) b d
         → Gives (carried_out (system_in b) t p (cut_by cut (doubting suspects (quietly c)))) b 0 d
     unfolding quiet_as
     quiet_done x d told changes = done_gives b _ d _ (rw (← told) at (quiet_out cut suspects c)) changes
@@ -160,7 +160,7 @@ module _ (b : List ℕ) (t : System) (p : ℕ) where
   unfolding stop_as
   not_stopped cut x r passed told = answer_gives b _ x r passed (rw (← told) at (stop_out cut))
 
-  pub stop_done : (cut : Cut) (x : Unit {0}) (d : List ℕ) → Ok x ≡ only_whole cut → system_in d ≡ crashed_at t p
+  pub stop_done : (cut : Cut) (x : Unit {0}) (d : List ℕ) → Ok x ≡ only_whole cut → Becomes (crashed_at t p) b d
       → Gives (carried_out (system_in b) t p (cut_by cut (crash_plan (variables_at t p)))) b 0 d
   unfolding stop_as
   stop_done cut x d told stops = done_gives b _ d _ (rw (← told) at (stop_out cut)) stops

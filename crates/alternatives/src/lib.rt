@@ -15,7 +15,7 @@ ghost use Rattle.plan.specs.Plan.{assigning, recording, entering, sending, quiet
 ghost use Rattle.plan.specs.Cut.{reach_of};
 ghost use Rattle.plan.specs.Scope.{taking, facing};
 ghost use Rattle.step.specs.Step.{taken_off, doubted};
-ghost use Rattle.image.specs.Image.{system_in};
+ghost use Rattle.image.specs.Image.{system_in, Becomes};
 ghost use Rattle.alternatives.specs.Gives.{Gives, carried, with_room};
 
 use channel::Message;
@@ -44,7 +44,7 @@ fn reach_with_room(image: &[u8], c: Scope, cut: Cut, to: u8) -> Result<Reach, Re
 // ---- a report
 // Process p is told a view: it comes to suspect whoever is not in it, or goes on to.
 fn doubt_others(image: &mut [u8], p: ProcessId, view: u8)
-    ensures { system_in image.new ≡ doubted (system_in image.old) p.0 (minus (everyone (system_in image.old).n) view) }
+    ensures { Becomes (doubted (system_in image.old) p.0 (minus (everyone (system_in image.old).n) view)) image.old image.new }
 {
     doubt(image, p, minus(everyone(size(image)), view));
 }

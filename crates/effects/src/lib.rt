@@ -5,7 +5,7 @@ ghost use Rattle.std.specs.Prelude.{◌≡◌};
 ghost use Rattle.std.specs.Iterator.{YieldsFirstBy, item_count};
 ghost use Rattle.system.specs.System.{variables_at, channel_at, with_trust, trusting, sent, broadcasted, room_for};
 ghost use Rattle.step.specs.Step.{guarded, taken_off, departed, doubted, crashed_at, crashed_if};
-ghost use Rattle.image.specs.Image.{system_in};
+ghost use Rattle.image.specs.Image.{system_in, Becomes};
 ghost use Rattle.effects.specs.Named.{members_of, takes, suspecting};
 
 use channel::Message;
@@ -82,7 +82,7 @@ pub fn room(image: &[u8], c: Scope, to: u8) -> bool
 // One message from process q to process p. To a crashed process it vanishes.
 #[tactic(auto, unfolding(system::specs::System::sent, view::specs::Logic::pick))]
 fn send(image: &mut [u8], q: ProcessId, p: ProcessId, m: Message)
-    ensures { system_in image.new ≡ sent (system_in image.old) q.0 p.0 m }
+    ensures { Becomes (sent (system_in image.old) q.0 p.0 m) image.old image.new }
 {
     if !variables_at(image, p).crashed {
         push(image, q, p, m);
@@ -91,7 +91,7 @@ fn send(image: &mut [u8], q: ProcessId, p: ProcessId, m: Message)
 
 // One message from process q to every process of a view, in rising order.
 fn broadcast(image: &mut [u8], q: ProcessId, to: u8, m: Message)
-    ensures { system_in image.new ≡ broadcasted (system_in image.old) q.0 to m }
+    ensures { Becomes (broadcasted (system_in image.old) q.0 to m) image.old image.new }
 {
     for p in members_of(to) {
         send(image, q, p, m);
@@ -100,7 +100,7 @@ fn broadcast(image: &mut [u8], q: ProcessId, to: u8, m: Message)
 
 // Process p stops: every channel towards it is emptied.
 pub fn crash(image: &mut [u8], p: ProcessId)
-    ensures { system_in image.new ≡ crashed_at (system_in image.old) p.0 }
+    ensures { Becomes (crashed_at (system_in image.old) p.0) image.old image.new }
 {
     let mut x = variables_at(image, p);
     x.crashed = true;
@@ -113,7 +113,7 @@ pub fn crash(image: &mut [u8], p: ProcessId)
 // Process p may trust process q again, or may not.
 #[tactic(auto, unfolding(system::specs::System::trusting, system::specs::System::trust_at))]
 fn trust(image: &mut [u8], p: ProcessId, q: ProcessId, on: bool)
-    ensures { system_in image.new ≡ with_trust (system_in image.old) (trusting (system_in image.old).trust p.0 q.0 on) }
+    ensures { Becomes (with_trust (system_in image.old) (trusting (system_in image.old).trust p.0 q.0 on)) image.old image.new }
 {
     let set = trust_at(image, p);
     put_trust(image, p, switched(set, q, on));
@@ -123,7 +123,7 @@ fn trust(image: &mut [u8], p: ProcessId, q: ProcessId, on: bool)
 #[tactic(auto, unfolding(step::specs::Step::departed, system::specs::System::with_trust, view::specs::Logic::pick))]
 fn depart(image: &mut [u8], p: ProcessId, old: u8, q: ProcessId)
     requires { old ≡ (variables_at (system_in image.old) p.0).view }
-    ensures { system_in image.new ≡ with_trust (system_in image.old) (departed (system_in image.old) p.0 q.0 (system_in image.old).trust) }
+    ensures { Becomes (with_trust (system_in image.old) (departed (system_in image.old) p.0 q.0 (system_in image.old).trust)) image.old image.new }
 {
     if has(old, q) {
         let view = variables_at(image, q).view;
@@ -135,7 +135,7 @@ fn depart(image: &mut [u8], p: ProcessId, old: u8, q: ProcessId)
 #[tactic(auto, unfolding(crate::specs::Named::suspecting, system::specs::System::with_trust))]
 fn suspect(image: &mut [u8], p: ProcessId, old: u8, q: ProcessId)
     requires { old ≡ (variables_at (system_in image.old) p.0).view }
-    ensures { system_in image.new ≡ suspecting (system_in image.old) p.0 q.0 }
+    ensures { Becomes (suspecting (system_in image.old) p.0 q.0) image.old image.new }
 {
     depart(image, p, old, q);
     trust(image, q, p, true);
@@ -144,7 +144,7 @@ fn suspect(image: &mut [u8], p: ProcessId, old: u8, q: ProcessId)
 // Process p, whose view is still the old one, comes to suspect the processes of a set, or goes on to.
 #[tactic(auto, using(crate::proofs::Named::same_variables))]
 pub fn doubt(image: &mut [u8], p: ProcessId, suspects: u8)
-    ensures { system_in image.new ≡ doubted (system_in image.old) p.0 suspects }
+    ensures { Becomes (doubted (system_in image.old) p.0 suspects) image.old image.new }
 {
     let old = variables_at(image, p).view;
     for q in members_of(suspects) {
@@ -155,7 +155,7 @@ pub fn doubt(image: &mut [u8], p: ProcessId, suspects: u8)
 // Process p stops, where it is cut.
 #[tactic(auto, unfolding(step::specs::Step::crashed_if, view::specs::Logic::pick))]
 pub fn crash_if(image: &mut [u8], stops: bool, p: ProcessId)
-    ensures { system_in image.new ≡ crashed_if stops (system_in image.old) p.0 }
+    ensures { Becomes (crashed_if stops (system_in image.old) p.0) image.old image.new }
 {
     if stops {
         crash(image, p);
@@ -166,7 +166,7 @@ pub fn crash_if(image: &mut [u8], stops: bool, p: ProcessId)
 // tenth less.
 #[inline(always)]
 pub fn send_out(image: &mut [u8], p: ProcessId, reach: Reach, m: Message)
-    ensures { system_in image.new ≡ crashed_if reach.stops (broadcasted (system_in image.old) p.0 reach.addressees m) p.0 }
+    ensures { Becomes (crashed_if reach.stops (broadcasted (system_in image.old) p.0 reach.addressees m) p.0) image.old image.new }
 {
     broadcast(image, p, reach.addressees, m);
     crash_if(image, reach.stops, p);

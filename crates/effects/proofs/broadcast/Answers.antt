@@ -4,4 +4,4 @@ use Rattle.effects.proofs.Named.{all_told}
 use Rattle.effects.proofs.broadcast.Goals as goal
 
 pub returns : goal.returns
-returns c = rw c.in-None.ensures.steps.0 at c.loop-p.invariant.2 ∙ all_told _ _ _ _
+returns c = record { system = rw c.in-None.ensures.steps.0 at c.loop-p.invariant.2 ∙ all_told _ _ _ _; kept = c.loop-p.invariant.3 }

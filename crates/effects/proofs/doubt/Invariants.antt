@@ -3,6 +3,7 @@ use mathlib.Core.Path.{◌≡◌}
 use Rattle.std.specs.Prelude.{fold}
 use Rattle.system.specs.System.{variables_at}
 use Rattle.image.specs.Image.{system_in}
+use Rattle.effects.proofs.Laws.{Keeps}
 use Rattle.effects.specs.Named.{members_of, suspecting}
 use Rattle.effects.proofs.doubt.Given as goal
 
@@ -13,3 +14,4 @@ invariant-loop-q l =
     × (l.old ≡ (variables_at (system_in l.image) l.p.0).view)
     × (fold (λ s k. suspecting s l.p.0 k) (system_in l.image) (members_of l.q-iterator.rest)
     ≡ fold (λ s k. suspecting s l.p.0 k) (system_in l.initial.image) (members_of l.suspects))
+    × Keeps l.initial.image l.image
