@@ -33,7 +33,7 @@ use Rattle.plan.specs.Cut.{only_whole}
 use Rattle.plan.proofs.Choices.{propout_below}
 use Rattle.plan.specs.Scope.{scope_of, facing, taking}
 use Rattle.step.specs.Step.{plan_of, guarded, taken_off, crashed_at}
-use Rattle.image.specs.Image.{system_in}
+use Rattle.image.specs.Image.{system_in, Becomes}
 use Rattle.alternatives.specs.Gives.{Gives, carried}
 use Rattle.alternatives.proofs.Carrying.{refusing_gives, not_stopped, stop_done}
 use Rattle.engine.specs.Engine.{Attempts}
@@ -120,6 +120,6 @@ module _ (b : List ℕ) (p : ProcessId) (cut : Cut) (u : Unit {0}) (guard : Ok u
   unfolding plan_of taken_off scope_of pick
   crash_refused z r passed told = passes b stop u guard _ _ _ (not_stopped b (system_in b) p.0 cut z r passed told) refl
 
-  pub crashed : (x : Unit {0}) (d : List ℕ) → Ok x ≡ only_whole cut → system_in d ≡ crashed_at (system_in b) p.0 → Attempts stop b 0 d
+  pub crashed : (x : Unit {0}) (d : List ℕ) → Ok x ≡ only_whole cut → Becomes (crashed_at (system_in b) p.0) b d → Attempts stop b 0 d
   unfolding plan_of taken_off scope_of pick
   crashed x d told stops = passes b stop u guard _ _ _ (stop_done b (system_in b) p.0 cut x d told stops) refl

@@ -63,7 +63,7 @@ attempts : (o : Step) (b : List ℕ) (k : ℕ) (c : List ℕ) → Gives (attempt
 attempts o b k c given =
     record {
       gives = given;
-      steps = λ sound. record { outcome = given.outcome ∙ sym (sound_stepped (system_in b) o sound); kept = given.kept };
+      steps = λ sound. record { outcome = given.outcome ∙ sym (sound_stepped (system_in b) o sound); kept = given.kept; other_length = given.other_length };
       stays = λ sound.
           subst (λ (s : System). sound_system s ≡ true)
           (sym (ap (λ (a : Outcome). a.system) (given.outcome ∙ sym (sound_stepped (system_in b) o sound))))
@@ -83,7 +83,7 @@ module _ (b : List ℕ) (o : Step) where
   unfolding attempted permitted
   turned_away x r passed told =
       let y = err_from_is_err_and x passed in
-      rw (y.1, y.2) (attempts o b (number r) b (record { outcome = rw (← told) refl; kept = λ h. refl }))
+      rw (y.1, y.2) (attempts o b (number r) b (record { outcome = rw (← told) refl; kept = λ h. refl; other_length = λ h. refl }))
 
   -- otherwise the plan is carried out
   pub passes : (x : Unit {0}) → Ok x ≡ guarded (system_in b) (scope_of o.action).actor (scope_of o.action).partner → (a : Planned) (k : ℕ) (d : List ℕ)
@@ -91,4 +91,4 @@ module _ (b : List ℕ) (o : Step) where
       → a ≡ plan_of (system_in b) o.action
       → Attempts o b k d
   unfolding attempted permitted
-  passes x none a k d gives plan = attempts o b k d (record { outcome = gives.outcome ∙ rw (← plan, ← none) refl; kept = gives.kept })
+  passes x none a k d gives plan = attempts o b k d (record { outcome = gives.outcome ∙ rw (← plan, ← none) refl; kept = gives.kept; other_length = gives.other_length })

@@ -53,7 +53,7 @@ module _ (order : List ℕ) where
         → (sound_system (system_in b) ≡ true → Gives (stepped (system_in b) o) b k d)
         → Gives (obeyed (system_in b) (order_at order 0)) b k d
     unfolding obeyed
-    obeys o k d long told sound steps = let g = steps sound in record { outcome = g.outcome ∙ sym (rw (says long, ← told)); kept = g.kept }
+    obeys o k d long told sound steps = let g = steps sound in record { outcome = g.outcome ∙ sym (rw (says long, ← told)); kept = g.kept; other_length = g.other_length }
 
     pub not_obeyed : (o : Step) → 4 ≤ length order → Ok o ≡ said → sound_system (system_in b) ≡ false → Gives (obeyed (system_in b) (order_at order 0)) b 1 b
     unfolding obeyed stepped pick
