@@ -132,15 +132,16 @@ process_again : (s : System) (p : ℕ) (x : Process) (f : Process → Process)
 unfolding with_process process_at
 process_again s p x f = ap (λ (l : List Process). record { n = s.n; processes = l; channels = s.channels; trust = s.trust }) (put_again s.processes p x no_process f)
 
-pub reply_done : (b : List ℕ) (p q : ProcessId) (cut : Cut) (next : GroupIndex) (m : Message) (to : ℕ) → to ≡ with 0 q.0
-    → (r : Reach) → Ok r ≡ with_room (taken_off (system_in b) (facing p q)) p.0 (reach_of cut to)
-    → (y : Variables) → y ≡ with_next (variables_at (system_in b) p.0) next.0
-    → (u w d : List ℕ) → Becomes (with_process (system_in b) p.0 (with_variables (process_at (system_in b) p.0) y)) b u
-    → Becomes (with_process (system_in u) p.0 (with_pending (process_at (system_in u) p.0) q.0 None)) u w
-    → Becomes (crashed_if r.stops (broadcasted (system_in w) p.0 r.addressees m) p.0) w d
+-- from the last change back to the first: at each of them one fact fits
+pub reply_done : (b d : List ℕ) (p q : ProcessId) (cut : Cut) (next : GroupIndex) (m : Message)
+    → (w : List ℕ) (r : Reach) → Becomes (crashed_if r.stops (broadcasted (system_in w) p.0 r.addressees m) p.0) w d
+    → (u : List ℕ) → Becomes (with_process (system_in u) p.0 (with_pending (process_at (system_in u) p.0) q.0 None)) u w
+    → (y : Variables) → Becomes (with_process (system_in b) p.0 (with_variables (process_at (system_in b) p.0) y)) b u
+    → y ≡ with_next (variables_at (system_in b) p.0) next.0
+    → (to : ℕ) → to ≡ with 0 q.0 → Ok r ≡ with_room (taken_off (system_in b) (facing p q)) p.0 (reach_of cut to)
     → Gives (carried (system_in b) (facing p q) cut (sending (recording (with_next (variables_at (system_in b) p.0) next.0) q None) (with 0 q.0) m)) b 0 d
 unfolding taken_off changed_at changed with_variables with_pending with_entry put pick
-reply_done b p q cut next m to proposer r reach y raises u w d puts clears sends =
+reply_done b d p q cut next m w r sends u clears y puts raises to proposer reach =
     let c : Change = recording (with_next (variables_at (system_in b) p.0) next.0) q None in
     sent_done b (system_in b) p.0 cut 0 c (with 0 q.0) m r d (rw (← proposer) reach)
     (sent_then r p.0 m
