@@ -1,6 +1,7 @@
 -- What is true of a buffer after input was read into it, and of a buffer newly made. What the world sends is free: how many bytes come,
 -- which they are, and whether a read fails. Everything else is fixed.
-use Rattle.std.specs.Prelude.{ℕ, ◌+◌, ◌≤◌, ◌<◌, ◌≡◌, List, length, get_or, take, drop, Result, Ok, Err, IfErr}
+use Rattle.std.specs.Prelude.{ℕ, ◌+◌, ◌≤◌, ◌<◌, ◌≡◌, ◌⊎◌, List, length, get_or, take, drop, Option, Result, Ok, Err, IfOk, IfErr, OnErr}
+use Rattle.std.specs.Io.KnownBytes.{Consumes, IsAtEnd}
 use Rattle.std.proofs.Math.Seq.{paste}
 use Rattle.input.specs.declared.ReadFailed.{ReadFailed}
 
@@ -31,3 +32,13 @@ pub record Received (outcome : Result ℕ ReadFailed) (before after : List ℕ) 
   pub long : length after ≡ length before
   pub room : IfErr outcome (λ e. e.len < length before)
   pub kept : drop (read_len outcome) after ≡ drop (read_len outcome) before
+
+-- a reader was read on: what stands in the buffer is what it gave, with room left it is at its end, and a failure is a failed read's
+pub record ReadOn {R : Type 0} (remaining : R → Option (List ℕ)) (failed : R → Type 0) (outcome : Result ℕ ReadFailed) (before after : List ℕ) (first last : R) : Type 0 where
+  pub bytes : Consumes (remaining first) (remaining last) (take (read_len outcome) after)
+  pub end : IfOk outcome (λ n. n < length before → IsAtEnd (remaining last))
+  pub fails : OnErr outcome (failed last)
+
+-- a path was not opened, which is a failure with no bytes, or the file that it opened was read on
+abbrev pub FileRead : {File : Type 0} → (File → Type 0) → Type 0 → (File → File → Type 0) → Result ℕ ReadFailed → Type 0
+FileRead {File} opened unopened read outcome = (unopened × (outcome ≡ Err (record { len = 0 }))) ⊎ ((first : File) × (last : File) × opened first × read first last)
