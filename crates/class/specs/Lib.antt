@@ -2,3 +2,4 @@
 pub mod Class
 pub mod Examples
 pub mod Names
+pub mod Reading

@@ -8,6 +8,7 @@ ghost use Rattle.print.specs.Page.{typed_on, StandsFirst};
 ghost use Rattle.run.specs.Output.{sheet_tally};
 ghost use Rattle.class.specs.Class.{name_limit, share_text, counts_text, finding_text, name_line, named, finding_of, adds_of, lined, all_line, line_limit};
 
+pub mod chunk;
 pub mod names;
 
 use print::Page;
