@@ -1,6 +1,6 @@
 -- The worked examples read as they are to, by computation.
 use mathlib.Core.Path.{◌≡◌, refl}
-use mathlib.Core.List.{map, flat_map}
+use mathlib.Core.List.{[], ◌∷◌, map, flat_map}
 use Rattle.view.specs.Logic.{pick, all_up_to, each_up_to, sum_up_to, at, put, one}
 use Rattle.view.specs.View.{has, within, with, minus, switched, everyone, first_from, least_of, counted_at, count_of, joined, first_members}
 use Rattle.channel.specs.Channel.{empty_channel, waiting, pushed, popped}
@@ -20,6 +20,7 @@ use Rattle.sheet.specs.Lines.{in_first, with_byte, lines_of}
 use Rattle.sheet.specs.Grammar.{piece, passed, ended, followed, readings, some, begins, greatest, column, first_reading, read}
 use Rattle.sheet.specs.Parse.{opened, parsed}
 use Rattle.run.specs.Output.{answered, line_done, tallied_then, tallied_from, tallied_by, lines_tally, sheet_tally}
+use Rattle.class.specs.Names.{names_in, first_names}
 use Rattle.class.specs.Class.{share_text, counts_text, finding_text, name_line, counted, finding_of, adds_of, all_line, each_line, in_all, class_output}
 use Rattle.print.specs.Examples.{printed_text, expected_text}
 use Rattle.class.specs.Examples.{k1_named, named_stop, cut_named, unread_named, bad_first_named, named_empty, long_named, class_printings}
@@ -48,3 +49,12 @@ unfolding pick all_up_to each_up_to sum_up_to at put
     expected_text k1_named named_stop cut_named unread_named bad_first_named named_empty long_named
     flat_map
 class_as_expected = refl
+
+-- an empty name is one, a line feed at the very end begins none, and the last name may lack its own
+pub names_as_expected : names_in (bytes "a\n\nb") ≡ bytes "a" ∷ [] ∷ bytes "b" ∷ []
+unfolding bytes first_names lines_of with_byte in_first pick
+names_as_expected = refl
+
+pub ended_as_expected : names_in (bytes "a\n\n") ≡ bytes "a" ∷ [] ∷ []
+unfolding bytes first_names lines_of with_byte in_first pick
+ended_as_expected = refl
