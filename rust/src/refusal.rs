@@ -78,7 +78,8 @@ impl Refusal {
 
     /// The refusal of this number, if there is one.
     pub fn from_number(number: u8) -> Option<Refusal> {
-        Refusal::ALL.iter().copied().find(|refusal| refusal.number() == number)
+        // They stand by their numbers.
+        Refusal::ALL.get(usize::from(number).checked_sub(1)?).copied()
     }
 
     /// The word in the table.
