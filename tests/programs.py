@@ -63,6 +63,8 @@ def bench():
     check("a long sheet and its rest", "bench", b"0 9\n", pieces=[long] + [b"r 1 1\n" * 10_000] * 20)
     check("a long sheet, its rest late", "bench", b"0 9\n", pieces=[long, b"s 1\n", b"s 1\n" * 40_000], pause=0.2)
 
+    check("a sheet without end", "bench", b"0 9\n", stdin=os.open("/dev/zero", os.O_RDONLY))
+
     # The sheets of the tests; tests/reference has the same outputs for them.
     for sheet in sorted(glob.glob("crates/sheets/data/*.sheet")):
         with open(sheet, "rb") as given, open(sheet.removesuffix("sheet") + "out", "rb") as wanted:
@@ -123,6 +125,7 @@ def runs():
     check("the line feed late", "runs", walked(1, 8), pieces=[b"1 8", b"\n"], pause=0.3)
     check("a second line late", "runs", other, pieces=[b"1 8\n", b"1 8\n"], pause=0.3)
     check("a long input, its rest late", "runs", other, pieces=[b"1 8\n1", b"x" * 200_000], pause=0.3)
+    check("an input without end", "runs", other, stdin=os.open("/dev/zero", os.O_RDONLY))
     check("arguments, which it does not look at", "runs", walked(2, 8), pieces=[b"2 8"], args=["1", "0"])
     check("the null device", "runs", other, stdin=os.open(os.devnull, os.O_RDONLY))
 

@@ -14,7 +14,7 @@ use Rattle.view.proofs.Sets.{has_none, not_empty, has-with, has_only, subset-has
 use Rattle.channel.specs.declared.Message.{Message}
 use Rattle.system.specs.declared.Variables.{Variables}
 use Rattle.system.specs.declared.System.{System}
-use Rattle.system.specs.Process.{Pending, proposal_of}
+use Rattle.system.specs.Process.{Pending, proposal_at}
 use Rattle.system.specs.System.{variables_at}
 use Rattle.plan.specs.declared.Action.{Action}
 use Rattle.plan.specs.declared.Action.TheVariants.{Report, Receive, Respond, Crash}
@@ -30,12 +30,12 @@ use Rattle.agreement.proofs.Acceptances.{still, newest, last_or_before}
 use Rattle.agreement.proofs.Invariant.{Proposed, Answered, Honest, Recorded, Own, Reached, Later, later_equal, later_risen, answered_later}
 use Rattle.agreement.proofs.Changes.{Accepting, accepting_none, HonestChange, recording_honest, since_same, since_then, at_actor, later_all, After, effect_after, quiet_after}
 
-pub accepts_this : (p : ℕ) (x : Variables) (y : Pending) (v : ℕ) (i : GroupIndex) → y ≡ Some (proposal_of v i) → x.next.0 ≤ i.0
+pub accepts_this : (p : ℕ) (x : Variables) (y : Pending) (v : ℕ) (i : GroupIndex) → y ≡ Some (proposal_at v i) → x.next.0 ≤ i.0
     → accepted_from p x y ≡ record { process = p; view = v; index = i.0 } ∷ []
 unfolding accepted_from pick
 accepts_this p x y v i e free = rw (e, le-ltb i.0 x.next.0 free)
 
-pub accepts_none : (p : ℕ) (x : Variables) (y : Pending) (v : ℕ) (i : GroupIndex) → y ≡ Some (proposal_of v i) → i.0 < x.next.0 → accepted_from p x y ≡ []
+pub accepts_none : (p : ℕ) (x : Variables) (y : Pending) (v : ℕ) (i : GroupIndex) → y ≡ Some (proposal_at v i) → i.0 < x.next.0 → accepted_from p x y ≡ []
 unfolding accepted_from pick
 accepts_none p x y v i e late = rw (e, lt-ltb i.0 x.next.0 late)
 
@@ -98,7 +98,7 @@ module _ {s t : System} {acc : List Acceptance} (r : Reached s acc) where
       (quiet_after r (all_left s) k.effect
       (assigned_honest r p.0 refl (later_equal _ _ refl refl) (record { marks = (r.own p.0).marks; leads = λ some least. absurd (k.other least) })))
   transition_after (Receive q p) (records k) =
-      unaccepting (quiet_after r (taken_left k.taken) k.effect (recorded_honest r p.0 q (Some (proposal_of k.view k.index)) (honest_first r k.taken)))
+      unaccepting (quiet_after r (taken_left k.taken) k.effect (recorded_honest r p.0 q (Some (proposal_at k.view k.index)) (honest_first r k.taken)))
   transition_after (Receive q p) (reproposes k) =
       unaccepting
       (effect_after r (taken_left k.taken) k.effect

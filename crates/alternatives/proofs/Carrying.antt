@@ -34,7 +34,7 @@ use Rattle.image.specs.Image.{system_in, Becomes}
 use Rattle.alternatives.specs.Gives.{Gives, with_room}
 
 -- ---- nobody is named
-no_doubts : (s : System) (p : ℕ) → doubted s p 0 ≡ s
+pub no_doubts : (s : System) (p : ℕ) → doubted s p 0 ≡ s
 unfolding doubted suspected_if_named with_trust pick
 no_doubts s p = ap (with_trust s) (each_same 8 (suspected_if_named s p 0) s.trust (λ k. rw (not_named k)))
 

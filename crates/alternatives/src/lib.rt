@@ -7,7 +7,7 @@
 ghost use Rattle.std.specs.Prelude.{◌≡◌, None, Some};
 ghost use Rattle.view.specs.View.{with, minus, everyone};
 ghost use Rattle.channel.specs.declared.Message.{Message};
-ghost use Rattle.system.specs.Process.{proposal_of};
+ghost use Rattle.system.specs.Process.{proposal_at};
 ghost use Rattle.system.specs.Refusal.{answer_number};
 ghost use Rattle.system.specs.System.{variables_at};
 ghost use Rattle.plan.specs.Fields.{with_view, with_next, with_acks, proposing};
@@ -19,7 +19,7 @@ ghost use Rattle.image.specs.Image.{system_in, Becomes};
 ghost use Rattle.alternatives.specs.Gives.{Gives, carried, with_room};
 
 use channel::Message;
-use effects::{doubt, room, send_out};
+use effects::{crash_if, doubt, room, send_if_named, send_out, takes_if_named};
 use image::{pop, put_entry, put_pending, put_variables, size, variables_at};
 use plan::{
     Cut, Reach, Scope, proposing, reach_of, require_room, require_whole, with_acks, with_next,
@@ -89,7 +89,7 @@ pub fn record_proposal(
     view: u8,
     i: GroupIndex,
 ) -> Result<(), Refusal>
-    ensures { Gives (carried (system_in image.old) (taking q p) cut (quietly (recording (variables_at (system_in image.old) p.0) q (Some (proposal_of view i))))) image.old (answer_number result) image.new }
+    ensures { Gives (carried (system_in image.old) (taking q p) cut (quietly (recording (variables_at (system_in image.old) p.0) q (Some (proposal_at view i))))) image.old (answer_number result) image.new }
 {
     require_whole(cut)?;
     pop(image, q, p);
@@ -163,8 +163,19 @@ pub fn send_taken(
 }
 
 // ---- an answer of process p to process q
+// The reach of an answer, if its one addressee has room for it.
+#[tactic(auto, unfolding(crate::specs::Gives::with_room))]
+fn reply_reach(image: &[u8], p: ProcessId, q: ProcessId, cut: Cut) -> Result<Reach, Refusal>
+    ensures { result ≡ with_room (taken_off (system_in image.now) (facing p q)) p.0 (reach_of cut (with 0 q.0)) }
+{
+    let c = Scope::facing(p, q);
+    let reach = reach_of(cut, with(0, q))?;
+    require_room(takes_if_named(image, c, reach.addressees, q))?;
+    Ok(reach)
+}
+
 // Next becomes this, the record is cleared, and the message goes to the proposer.
-#[tactic(auto, using(crate::proofs::Carrying::not_sent, crate::proofs::Alternatives::reply_done))]
+#[tactic(auto, using(crate::proofs::Carrying::not_sent, crate::proofs::Answering::answer_done))]
 pub fn reply(
     image: &mut [u8],
     p: ProcessId,
@@ -175,9 +186,10 @@ pub fn reply(
 ) -> Result<(), Refusal>
     ensures { Gives (carried (system_in image.old) (facing p q) cut (sending (recording (with_next (variables_at (system_in image.old) p.0) next.0) q None) (with 0 q.0) m)) image.old (answer_number result) image.new }
 {
-    let reach = reach_with_room(image, Scope::facing(p, q), cut, with(0, q))?;
+    let reach = reply_reach(image, p, q, cut)?;
     put_variables(image, p, with_next(variables_at(image, p), next));
     put_pending(image, p, q, None);
-    send_out(image, p, reach, m);
+    send_if_named(image, p, reach.addressees, m, q);
+    crash_if(image, reach.stops, p);
     Ok(())
 }

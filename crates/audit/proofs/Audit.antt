@@ -14,14 +14,15 @@ use Rattle.view.specs.Logic.{pick, is_one_of}
 use Rattle.view.proofs.Laws.{by_pick}
 use Rattle.tallies.specs.declared.Tally.{Tally}
 use Rattle.tallies.specs.Tally.{no_tally, plus, capped}
-use Rattle.tallies.proofs.Laws.{plus_none, none_plus, plus-plus, kept_on_the_way, kept_added, kept_twice, kept_whole, CountsAtMost, none_at_most, plus_at_most}
+use Rattle.tallies.proofs.Laws.{none_plus, plus-plus, kept_on_the_way, kept_added, kept_twice, kept_whole, CountsAtMost, none_at_most, plus_at_most}
 use Rattle.system.specs.declared.System.{System}
 use Rattle.system.specs.Outcome.{Outcome, done, refused}
 use Rattle.system.specs.Fresh.{fresh_system, fresh_of}
 use Rattle.step.specs.Step.{stepped}
 use Rattle.events.specs.Counts.{tally_if, step_tally, done_tally, still_waiting, move_tally, tally_then, events_tally, tally_of, fresh_tally}
-use Rattle.events.specs.Event.{Event, happened, ran, Move, made, moved, moves_of, moves_then, moves_in, grown}
-use Rattle.events.proofs.Moves.{ran_append, moves_append, run_grown}
+use Rattle.events.specs.Event.{Event, happened, ran, Move, made, moves_of, moves_then, moves_in, grown}
+use Rattle.events.proofs.Counted.{tally_append}
+use Rattle.events.proofs.Moves.{ran_append, moves_append}
 use Rattle.settling.specs.Settle.{settled_log, settling_budget}
 use Rattle.settling.proofs.Within.{settled_steps}
 use Rattle.settling.proofs.Steps.{is_its_steps, runs_to, settled_moves}
@@ -38,23 +39,12 @@ use Rattle.sheet.proofs.Laws.{weight, few_bytes, few_lines}
 use Rattle.sheet.proofs.GoodLines.{fresh_size}
 use Rattle.run.specs.Output.{answered, settled_as, line_done, tallied_then, tallied_from, tallied_by, lines_tally, sheet_tally, sheet_limit}
 use Rattle.class.specs.Class.{Finding, Named, counted, finding_of, adds_of, in_all, name_limit}
-use Rattle.audit.specs.Audit.{line_events, events_of, Accounted, SheetAccounted, Even, SheetEven, ClassEven, NotOverOne, SheetShare, ClassShare, NoOverflow}
+use Rattle.audit.specs.Audit.{line_events, sheet_events, Accounted, SheetAccounted, Even, SheetEven, ClassEven, NotOverOne, SheetShare, ClassShare, NoOverflow}
 
 -- ---- what moves count, one after the other
-tally_from : (a : Tally) (s : System) (ms : List Move) → grown tally_then a s ms ≡ plus a (grown tally_then no_tally s ms)
-unfolding grown tally_then
-tally_from a s [] = sym (plus_none a)
-tally_from a s (m ∷ ms) =
-    let t = (moved s m).system in
-    tally_from (plus a (move_tally s m)) t ms
-    ∙ plus-plus a (move_tally s m) (grown tally_then no_tally t ms)
-    ∙ ap (plus a) (sym (tally_from (move_tally s m) t ms) ∙ ap (λ (b : Tally). grown tally_then b t ms) (sym (none_plus (move_tally s m))))
-
-tally_append : (s : System) (es fs : List Event) → tally_of s (es ++ fs) ≡ plus (events_tally s es) (tally_of (ran s es) fs)
-unfolding tally_of events_tally
-tally_append s es fs =
-    rw (run_grown s es fs tally_then no_tally, tally_from (grown tally_then no_tally s (moves_in s es)) (ran s es) (moves_in (ran s es) fs), ran_append s es fs)
-    (plus-plus _ _ _)
+tally_of_append : (s : System) (es fs : List Event) → tally_of s (es ++ fs) ≡ plus (events_tally s es) (tally_of (ran s es) fs)
+unfolding tally_of
+tally_of_append s es fs = rw (tally_append s es fs, ran_append s es fs) (plus-plus _ _ _)
 
 -- ---- a line: what it counts, and the system after it
 module _ (k : ℕ) (s : System) where
@@ -100,24 +90,24 @@ nothing_more : (s : System) → tally_of s [] ≡ still_waiting s
 unfolding tally_of events_tally moves_in grown ran
 nothing_more s = none_plus (still_waiting s)
 
-lines_count : (k : ℕ) (a : Tally) (s : System) (ls : List (List ℕ)) → tallied_from k a s ls ≡ capped (plus a (tally_of s (events_of s ls)))
-unfolding tallied_from tallied_then events_of
+lines_count : (k : ℕ) (a : Tally) (s : System) (ls : List (List ℕ)) → tallied_from k a s ls ≡ capped (plus a (tally_of s (sheet_events s ls)))
+unfolding tallied_from tallied_then sheet_events
 lines_count k a s [] = ap (λ (t : Tally). capped (plus a t)) (sym (nothing_more s))
 lines_count k a s (l ∷ ls) =
     let x = line_done k s (parsed l) in
     let es = line_events s (parsed l) in
-    rw (lines_count (suc k) (capped (plus a x.tally)) x.system ls, line_leaves k s (parsed l), tally_append s es (events_of (ran s es) ls))
+    rw (lines_count (suc k) (capped (plus a x.tally)) x.system ls, line_leaves k s (parsed l), tally_of_append s es (sheet_events (ran s es) ls))
     (counted_on a _ _ _ (line_counts k s (parsed l)))
 
-lines_few : (s : System) (ls : List (List ℕ)) → length (moves_in s (events_of s ls)) ≤ settling_budget * length ls
-unfolding events_of moves_in
+lines_few : (s : System) (ls : List (List ℕ)) → length (moves_in s (sheet_events s ls)) ≤ settling_budget * length ls
+unfolding sheet_events moves_in
 lines_few s [] = omega arith
 lines_few s (l ∷ ls) =
     let es = line_events s (parsed l) in
     omega (
       arith,
-      ap length (moves_append s es (events_of (ran s es) ls)),
-      length-append (moves_in s es) (moves_in (ran s es) (events_of (ran s es) ls)),
+      ap length (moves_append s es (sheet_events (ran s es) ls)),
+      length-append (moves_in s es) (moves_in (ran s es) (sheet_events (ran s es) ls)),
       line_few s (parsed l),
       lines_few (ran s es) ls,
     )
@@ -135,8 +125,8 @@ good_sheet n ls e short =
     ap (λ (s : System). tallied_from 2 no_tally s ls) (sym same)
     ∙ lines_count 2 no_tally start ls
     ∙ ap capped (none_plus _)
-    ∙ kept_whole (8 * (most_events)) (fresh_tally n (events_of start ls))
-    (few_at_most n (events_of start ls) (most_events) (omega (arith, lines_few start ls))) (omega arith)
+    ∙ kept_whole (8 * (most_events)) (fresh_tally n (sheet_events start ls))
+    (few_at_most n (sheet_events start ls) (most_events) (omega (arith, lines_few start ls))) (omega arith)
 
 pub accounted : (sheet first : List ℕ) (ls : List (List ℕ)) (n : ℕ) → SheetAccounted sheet first ls n
 unfolding sheet_tally lines_tally tallied_by weight pick
@@ -169,7 +159,7 @@ every_sheet P none some sheet =
     of_opening : (first : List ℕ) (ls : List (List ℕ)) (x : Result ℕ BadFrom) → opened first ≡ x → length ls ≤ sheet_limit + 1 → P (tallied_by x ls)
     of_opening first ls (Err from) e short = none
     of_opening first ls (Ok n) e short =
-        subst P (sym (good_sheet n ls (fresh_size first n e) short)) (some n (events_of (fresh_of n).system ls) (omega (arith, lines_few (fresh_of n).system ls)))
+        subst P (sym (good_sheet n ls (fresh_size first n e) short)) (some n (sheet_events (fresh_of n).system ls) (omega (arith, lines_few (fresh_of n).system ls)))
 
     of_lines : (ls : List (List ℕ)) → length ls ≤ sheet_limit + 1 → P (lines_tally ls)
     of_lines [] short = none

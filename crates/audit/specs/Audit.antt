@@ -25,13 +25,13 @@ line_events s (Ok (Step o)) = does o ∷ []
 line_events s (Ok Settle) = settled_events settling_budget s
 
 -- by its lines, one after the other
-unfoldable pub events_of : System → List (List ℕ) → List Event
-events_of s [] = []
-events_of s (l ∷ ls) = line_events s (parsed l) ++ events_of (ran s (line_events s (parsed l))) ls
+unfoldable pub sheet_events : System → List (List ℕ) → List Event
+sheet_events s [] = []
+sheet_events s (l ∷ ls) = line_events s (parsed l) ++ sheet_events (ran s (line_events s (parsed l))) ls
 
 -- what is counted, by a sheet of n processes whose other lines are ls
 abbrev pub Accounted : ℕ → List (List ℕ) → Tally → Type 0
-Accounted n ls t = t ≡ fresh_tally n (events_of (fresh_of n).system ls)
+Accounted n ls t = t ≡ fresh_tally n (sheet_events (fresh_of n).system ls)
 
 -- of every sheet that has a good first line and is not a long one
 abbrev pub SheetAccounted : List ℕ → List ℕ → List (List ℕ) → ℕ → Type 0

@@ -12,7 +12,7 @@ use Rattle.view.proofs.Sets.{subset-has}
 use Rattle.channel.specs.declared.Message.{Message}
 use Rattle.channel.specs.declared.Message.TheVariants.{Propose}
 use Rattle.system.specs.declared.System.{System}
-use Rattle.system.specs.Process.{pending_at, proposal_of}
+use Rattle.system.specs.Process.{pending_at, proposal_at}
 use Rattle.system.specs.System.{process_at, variables_at}
 use Rattle.plan.specs.declared.Change.{Change}
 use Rattle.plan.specs.declared.Action.{Action}
@@ -63,7 +63,7 @@ answering : {s t : System} {p v : ℕ} {i : GroupIndex} {q : ProcessId} {c : Cha
     → c.pending ≡ None
     → Shape s
     → Known s q.0
-    → pending_at (process_at s p) q.0 ≡ Some (proposal_of v i)
+    → pending_at (process_at s p) q.0 ≡ Some (proposal_at v i)
     → (outward m ≡ 0) × (inward m ≡ 1) × (selfward m ≡ 1)
     → c.variables.acks ≡ (variables_at s p).acks
     → c.variables.propout ≡ (variables_at s p).propout

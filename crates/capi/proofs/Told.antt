@@ -10,7 +10,7 @@ use Rattle.image.specs.Image.{system_in}
 use Rattle.settling.specs.declared.Ending.TheVariants.{Held}
 use Rattle.settling.specs.Settle.{Settled, settled}
 use Rattle.settle.specs.declared.Settling.{Settling}
-use Rattle.settle.specs.Settles.{settled_as, Settles}
+use Rattle.settle.specs.Settles.{settled_told, Settles}
 use Rattle.capi.specs.Calls.{ending_number, Tells}
 
 module _ (budget : ℕ) (b c told : List ℕ) where
@@ -27,10 +27,10 @@ module _ (budget : ℕ) (b c told : List ℕ) where
   module _ (r : Result Settling Refusal) (run : Settles budget b r c) where
     pub run_told : (x : Settling) (k : ℕ) → r ≡ Ok x → k ≡ ending_number x.ending
         → Tells (settled budget (system_in b)) b 0 c told (set (set told 0 x.steps) 1 k)
-    unfolding settled_as
+    unfolding settled_told
     run_told x k done is = rw is (told_so _ (rw done at run.outcome) refl (rw done at run.kept))
 
     pub refusal_told : (e : Refusal) (k : ℕ) → r ≡ Err e → k ≡ ending_number Held
         → Tells (settled budget (system_in b)) b (number e) c told (set (set told 0 0) 1 k)
-    unfolding settled_as
+    unfolding settled_told
     refusal_told e k refused is = rw is (told_so _ (rw refused at run.outcome) refl (rw refused at run.kept))

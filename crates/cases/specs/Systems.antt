@@ -5,7 +5,7 @@ use Rattle.channel.specs.declared.Message.{Message}
 use Rattle.channel.specs.declared.Channel.{Channel}
 use Rattle.channel.specs.Channel.{empty_channel, pushed}
 use Rattle.system.specs.declared.System.{System}
-use Rattle.system.specs.Process.{index, assigned, as_crashed, with_entry, with_pending, with_variables, with_history, proposal_of}
+use Rattle.system.specs.Process.{index, assigned, as_crashed, with_entry, with_pending, with_variables, with_history, proposal_at}
 use Rattle.system.specs.System.{process_at, variables_at, with_process, with_channel, with_trust}
 use Rattle.system.specs.Fresh.{fresh_system}
 
@@ -31,7 +31,7 @@ with_stop s p = with_process s p (with_variables (process_at s p) (as_crashed (v
 
 -- process p has recorded from process q a proposal of view v at index i
 unfoldable pub with_record : System → ℕ → ℕ → ℕ → ℕ → System
-with_record s p q v i = with_process s p (with_pending (process_at s p) q (Some (proposal_of v (index i))))
+with_record s p q v i = with_process s p (with_pending (process_at s p) q (Some (proposal_at v (index i))))
 
 -- process p has view v at index i
 unfoldable pub with_written : System → ℕ → ℕ → ℕ → System

@@ -139,10 +139,10 @@ pub fn print_name(
     ensures total { result.total ≡ (lined total (named name.now sheet.entry)).total }
 {
     let finding = find(name, sheet);
-    ClassLine {
-        end: print_line(name, finding, out),
-        total: total + adds(finding),
-    }
+    let mut after = total;
+    after += adds(finding);
+    let end = print_line(name, finding, out);
+    ClassLine { end, total: after }
 }
 
 // The last line, for all names together.

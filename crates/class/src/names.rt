@@ -10,7 +10,7 @@ ghost use Rattle.class.specs.Reading.{bytes_left, names_left};
 
 use crate::NAME_LIMIT;
 use crate::chunk::Chunk;
-use input::{Failure, Source, zeros};
+use input::{Failure, Source, large_buffer};
 use print::Page;
 use sheet::lines::next_place;
 
@@ -26,7 +26,7 @@ pub const NAME_ROOM: usize = NAME_LIMIT + 1;
 // Takes the bytes of a chunk from a place on, up to the next line feed, onto the end of a name. The
 // answer is the place after the line feed, if there is one.
 #[tactic(none)]
-fn gather(chunk: &[u8], at: usize, name: &mut Page) -> Option<usize>
+pub fn gather(chunk: &[u8], at: usize, name: &mut Page) -> Option<usize>
     ensures { Gathers chunk.now at name.old name.new result }
 {
     if chunk.len() <= at {
@@ -56,7 +56,7 @@ impl<R: Source> Names<R> {
         Names {
             reader,
             chunk: Chunk {
-                bytes: zeros(),
+                bytes: large_buffer(),
                 at: 0,
                 have: 0,
             },

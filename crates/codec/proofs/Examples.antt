@@ -10,7 +10,7 @@ use Rattle.view.specs.View.{everyone}
 use Rattle.channel.specs.declared.Message.TheVariants.{Acc, Commit}
 use Rattle.channel.specs.Channel.{empty_channel, pushed}
 use Rattle.system.specs.declared.System.{System}
-use Rattle.system.specs.Process.{with_entry, index, proposal_of}
+use Rattle.system.specs.Process.{with_entry, index, proposal_at}
 use Rattle.system.specs.System.{channel_number, with_channel}
 use Rattle.system.specs.Fresh.{fresh_variables, fresh_process, fresh_system}
 use Rattle.image.specs.Image.{concatenated, message_bytes, channel_bytes, pending_bytes, variables_bytes, process_bytes, encoded, message_of, slot_in, pending_of, record_in, variables_of, variables_in, no_system, system_in}
@@ -43,7 +43,7 @@ unfolding slot_in message_of pick
 wrong_message = refl
 
 -- a record's tag is 0 or 1
-pub wrong_record : record_in (2 ∷ 3 ∷ 2 ∷ []) ≡ Some (proposal_of 0 (index 0))
+pub wrong_record : record_in (2 ∷ 3 ∷ 2 ∷ []) ≡ Some (proposal_at 0 (index 0))
 unfolding record_in pending_of pick
 wrong_record = refl
 

@@ -2,7 +2,7 @@
 use Prim.Native.Nat.{ℕ, zero, suc, ◌+◌, ◌-◌, ◌≤◌, ◌<◌}
 use mathlib.Core.Path.{◌≡◌, refl, sym, ◌∙◌, ap}
 use mathlib.Core.Bool.{Bool, true, false, ◌&&◌}
-use mathlib.Core.List.{List}
+use mathlib.Core.List.{List, map}
 use native.Mathlib.Omega.{arith}
 use borrow.Author.Tests.{eqb-true, eqb-false}
 use lib.Dec.{eqb}
@@ -10,9 +10,11 @@ use lib.ListN.{length, get_or, drop}
 use lib.Seq.{get_or-drop}
 use Rattle.std.proofs.Common.{Fits, w8, Result, Ok, Err}
 use Rattle.std.specs.Result.{result_and}
+use Rattle.std.specs.List.{sum}
 use Rattle.view.specs.Logic.{is_one_of, pick, sum_up_to, at, one}
-use Rattle.view.proofs.Laws.{by_pick}
-use Rattle.view.proofs.Sums.{sum_at_most}
+use Rattle.view.specs.View.{has}
+use Rattle.view.proofs.Laws.{by_pick, by_test}
+use Rattle.view.proofs.Sums.{sum_at_most, sum_same}
 use Rattle.tallies.specs.declared.Tally.{Tally}
 use Rattle.tallies.specs.Tally.{no_tally}
 use Rattle.channel.specs.Channel.{empty_channel}
@@ -35,6 +37,8 @@ use Rattle.step.proofs.Inversion.{sound_stepped}
 use Rattle.step.proofs.TakenOff.{taken_variables, taken_channel}
 use Rattle.step.proofs.Weights.{one_small}
 use Rattle.image.specs.Image.{image_width, channel_width, channels_place, length_place, rows, channel_in, decoded, no_system, system_in}
+use Rattle.effects.specs.Named.{members_of}
+use Rattle.effects.proofs.Named.{sum_members}
 use Rattle.alternatives.proofs.Carrying.{some_number}
 use Rattle.engine.specs.Engine.{Attempts}
 use Rattle.counting.specs.Tallied.{counted, Counts}
@@ -43,6 +47,13 @@ use Rattle.counting.specs.Tallied.{counted, Counts}
 pub few_vanish : (s : System) (to : ℕ) → sum_up_to 8 (vanishes_at s to) ≤ 8
 unfolding vanishes_at
 few_vanish s to = omega (arith, sum_at_most 8 (vanishes_at s to) 1 (λ k l u. one_small _))
+
+-- the code asks the addressees alone
+pub addressees_vanish : (s : System) (to : ℕ) → sum (map (λ k. one (variables_at s k).crashed) (members_of to)) ≡ vanished s to
+unfolding vanished vanishes_at one pick
+addressees_vanish s to =
+    sum_members to (λ k. one (variables_at s k).crashed)
+    ∙ sum_same 8 _ (vanishes_at s to) (λ k l u. by_test (has to k) (λ on. rw on) (λ off. rw off))
 
 -- ---- once the taken message is off
 -- as many have crashed as before

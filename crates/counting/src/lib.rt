@@ -6,13 +6,14 @@ ghost use Rattle.system.specs.System.{variables_at, channel_at};
 ghost use Rattle.system.specs.Refusal.{answer_number};
 ghost use Rattle.plan.specs.Scope.{scope_of};
 ghost use Rattle.step.specs.Step.{plan_of, taken_off};
-ghost use Rattle.events.specs.Counts.{waiting_towards, waiting_in, still_waiting, vanishes_at, vanished, lost_at, is_commit, plan_counts, plan_tally, step_tally};
+ghost use Rattle.events.specs.Counts.{waiting_towards, waiting_in, still_waiting, vanished, lost_at, is_commit, plan_counts, plan_tally, step_tally};
 ghost use Rattle.image.specs.Image.{system_in};
 ghost use Rattle.engine.specs.Engine.{Attempts};
 ghost use Rattle.plan.specs.ByValue.{planned, planned_of};
 ghost use Rattle.counting.specs.Tallied.{counted, Counts};
 
 use channel::Message;
+use effects::members_of;
 use engine::attempt;
 use image::{front_at, length_at, pending_at, size, trust_at, variables_at};
 use plan::plans::{self, cut_by, scope_of};
@@ -57,19 +58,12 @@ pub fn still_waiting(image: &[u8]) -> Tally
     }
 }
 
-// Process p is an addressee, and has crashed.
-#[tactic(auto, unfolding(events::specs::Counts::vanishes_at, view::specs::Logic::one, view::specs::Logic::pick))]
-fn vanishes_at(image: &[u8], to: u8, p: ProcessId) -> u64
-    ensures { result ≡ vanishes_at (system_in image.now) to p.0 }
-{
-    u64::from(has(to, p) && variables_at(image, p).crashed)
-}
-
 // How many of the addressees have crashed.
 fn vanished(image: &[u8], to: u8) -> u64
     ensures { (result ≡ vanished (system_in image.now) to) × (result ≤ 8) }
 {
-    (1..=8).map(|i| vanishes_at(image, to, ProcessId(i))).sum()
+    let crashed = |p| u64::from(variables_at(image, p).crashed);
+    members_of(to).map(crashed).sum()
 }
 
 // How many messages are lost if the plan of the actor is carried out.

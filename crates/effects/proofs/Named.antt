@@ -1,17 +1,18 @@
 -- Laws of a loop over the processes of a view: the first of them and the others; and what a loop over 1 to 8 says of those that are named.
-use Prim.Native.Nat.{ℕ, ◌-◌, ◌<◌}
+use Prim.Native.Nat.{ℕ, ◌+◌, ◌-◌, ◌<◌}
 use mathlib.Core.Path.{◌≡◌, refl, ◌∙◌, ap}
 use mathlib.Core.Bool.{Bool, true, ◌&&◌, ◌||◌, not, and_assoc, and-true}
 use mathlib.Core.Logic.{⊎_elim}
-use mathlib.Core.List.{List, [], ◌∷◌}
+use mathlib.Core.List.{List, [], ◌∷◌, map}
+use native.Mathlib.Nat.{add-zero}
 use borrow.Author.Tests.{eqb-true}
 use lib.Bits.{bit_and}
 use lib.Dec.{eqb}
 use Rattle.std.proofs.lemmas.Slice.Eq.{bytes_eq-Decides}
 use Rattle.std.specs.Prelude.{fold, filter}
-use Rattle.std.specs.List.{list_all}
+use Rattle.std.specs.List.{list_all, sum}
 use Rattle.std.specs.Str.{bytes_eq}
-use Rattle.view.specs.Logic.{pick, all_up_to, each_up_to}
+use Rattle.view.specs.Logic.{pick, all_up_to, each_up_to, sum_up_to}
 use Rattle.view.specs.View.{has, least_of, first_from}
 use Rattle.view.proofs.Laws.{or_cases, by_test}
 use Rattle.view.proofs.Table.{below}
@@ -53,6 +54,16 @@ all_named test f (k ∷ ks) = by_test (test k) (λ on. rw on (ap (λ (b : Bool).
 pub all_members : (v : ℕ) (f : ℕ → Bool) → list_all f (members_of v) ≡ all_up_to 8 (λ k. not (has v k) || f k)
 unfolding members_of all_up_to
 all_members v f = all_named (has v) f (1 ∷ 2 ∷ 3 ∷ 4 ∷ 5 ∷ 6 ∷ 7 ∷ 8 ∷ []) ∙ simp (and_assoc, and-true)
+
+sums_named : (test : ℕ → Bool) (h : ℕ → ℕ) (ks : List ℕ) (a : ℕ)
+    → fold (λ b x. b + x) a (map h (filter test ks)) ≡ fold (λ b x. b + x) a (map (λ k. pick (test k) (h k) 0) ks)
+unfolding pick
+sums_named test h [] a = refl
+sums_named test h (k ∷ ks) a = by_test (test k) (λ on. rw on (sums_named test h ks (a + h k))) (λ off. rw (off, add-zero) (sums_named test h ks a))
+
+pub sum_members : (v : ℕ) (h : ℕ → ℕ) → sum (map h (members_of v)) ≡ sum_up_to 8 (λ k. pick (has v k) (h k) 0)
+unfolding members_of sum_up_to
+sum_members v h = sums_named (has v) h (1 ∷ 2 ∷ 3 ∷ 4 ∷ 5 ∷ 6 ∷ 7 ∷ 8 ∷ []) 0
 
 -- ---- who is told, and who is suspected
 pub all_told : (s : System) (q v : ℕ) (m : Message) → fold (λ t k. sent t q k m) s (members_of v) ≡ broadcasted s q v m

@@ -3,7 +3,7 @@
 
 ghost use Rattle.std.specs.Prelude.{◌≡◌};
 ghost use Rattle.std.specs.Iterator.{YieldsFirstBy, item_count};
-ghost use Rattle.system.specs.System.{variables_at, channel_at, with_trust, trusting, sent, broadcasted, room_for};
+ghost use Rattle.system.specs.System.{variables_at, channel_at, with_trust, trusting, sent, sent_if_named, broadcasted, takes_if_named, room_for};
 ghost use Rattle.step.specs.Step.{guarded, taken_off, departed, doubted, crashed_at, crashed_if};
 ghost use Rattle.image.specs.Image.{system_in, Becomes};
 ghost use Rattle.effects.specs.Named.{members_of, takes, suspecting};
@@ -16,12 +16,12 @@ use view::{ProcessId, has, is_one_of, least, switched};
 
 // The processes that a view names, the least first.
 #[derive(Clone, Copy, Drop)]
-struct Members {
+pub struct Members {
     // Those that are still to come.
     rest: u8,
 }
 
-fn members_of(view: u8) -> Members
+pub fn members_of(view: u8) -> Members
     ensures { result ≡ record { rest = view } }
 {
     Members { rest: view }
@@ -72,6 +72,14 @@ fn takes(image: &[u8], c: Scope, k: ProcessId) -> bool
     len < 8 || variables_at(image, k).crashed | (own & (len == 8))
 }
 
+// Process k is no addressee; or it has crashed, or its channel from the actor has room.
+#[tactic(auto, unfolding(crate::specs::Named::takes, system::specs::System::takes_if_named))]
+pub fn takes_if_named(image: &[u8], c: Scope, to: u8, k: ProcessId) -> bool
+    ensures { result ≡ takes_if_named (taken_off (system_in image.now) c) c.actor.0 to k.0 }
+{
+    !has(to, k) || takes(image, c, k)
+}
+
 // Refusal 7 is not given: each addressee takes the message.
 pub fn room(image: &[u8], c: Scope, to: u8) -> bool
     ensures { result ≡ room_for (taken_off (system_in image.now) c) c.actor.0 to }
@@ -86,6 +94,16 @@ fn send(image: &mut [u8], q: ProcessId, p: ProcessId, m: Message)
 {
     if !variables_at(image, p).crashed {
         push(image, q, p, m);
+    }
+}
+
+// The same, if the view names process p.
+#[tactic(auto, unfolding(system::specs::System::sent_if_named, view::specs::Logic::pick))]
+pub fn send_if_named(image: &mut [u8], q: ProcessId, to: u8, message: Message, p: ProcessId)
+    ensures { Becomes (sent_if_named q.0 to message p.0 (system_in image.old)) image.old image.new }
+{
+    if has(to, p) {
+        send(image, q, p, message);
     }
 }
 

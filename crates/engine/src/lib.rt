@@ -82,11 +82,9 @@ pub fn do_crash(image: &mut [u8], p: ProcessId, cut: Cut) -> Result<(), Refusal>
 }
 
 // ---- any step
-// The step, on an image whose system is taken to be sound: internal to runs that know it to be so. Inlined:
-// a list of steps takes a tenth less. A match, and no closure: an action is data, which sheets and lists are read
-// to, and there are four.
+// The step, on an image whose system is taken to be sound: internal to runs that know it to be so. A match, and
+// no closure: an action is data, which sheets are read to, and there are four.
 #[tactic(auto, using(crate::proofs::Given::of_action))]
-#[inline(always)]
 pub fn attempt(image: &mut [u8], o: Step) -> Result<(), Refusal>
     ensures { Attempts o image.old (answer_number result) image.new }
 {

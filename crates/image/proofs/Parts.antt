@@ -57,6 +57,10 @@ pub an_image : (b : List ℕ) → length b ≡ image_width → system_in b ≡ d
 unfolding system_in pick
 an_image b h = rw (eq-eqb (length b) image_width h)
 
+pub no_image : (b : List ℕ) → (length b ≡ image_width → ⊥) → system_in b ≡ no_system
+unfolding system_in pick
+no_image b h = rw (ne_eqb (length b) image_width h)
+
 none_at : {A : Type 0} (k : ℕ) (d : A) → at [] k d ≡ d
 unfolding at
 none_at zero d = refl
@@ -69,7 +73,7 @@ none_put (suc k) x = refl
 
 -- ---- what is read
 module _ (b : List ℕ) (p : ℕ) where
-  process_is : process_at (system_in b) p ≡ reading process_in no_process b (process_row b p)
+  pub process_is : process_at (system_in b) p ≡ reading process_in no_process b (process_row b p)
   unfolding process_at process_row row_after decoded no_system
   process_is =
       by_length b (λ o s. at s.processes p no_process ≡ reading process_in no_process b (row_after o processes_place process_width 8 p))
@@ -109,7 +113,7 @@ module _ (b : List ℕ) (p : ℕ) where
       ∙ sym (read_back (byte 0) 0 1 b (trust_row b p) byte_local refl)
 
 module _ (b : List ℕ) (q p : ℕ) where
-  channel_is : channel_at (system_in b) q p ≡ reading channel_in empty_channel b (channel_row b q p)
+  pub channel_is : channel_at (system_in b) q p ≡ reading channel_in empty_channel b (channel_row b q p)
   unfolding channel_at channel_row row_after decoded no_system
   channel_is =
       by_length b (λ o s. at s.channels (channel_number q p) empty_channel ≡ reading channel_in empty_channel b (row_after o channels_place channel_width 64 (channel_number q p)))

@@ -9,7 +9,7 @@ use Rattle.system.specs.declared.History.{History}
 use Rattle.system.specs.declared.Variables.{Variables}
 use Rattle.system.specs.declared.Process.{Process}
 use Rattle.system.specs.declared.System.{System}
-use Rattle.system.specs.Process.{index, Pending, proposal_of}
+use Rattle.system.specs.Process.{index, Pending, proposal_at}
 
 -- ---- how many bytes each part has, and where it begins in the part that holds it
 abbrev pub message_width : ℕ
@@ -103,7 +103,7 @@ channel_in b = record { slots = rows 8 message_width slot_in b; len = byte lengt
 
 -- a tag that stands for nothing is read as a proposal at index 0, which is not sound
 unfoldable pub pending_of : ℕ → ℕ → ℕ → Pending
-pending_of tag x y = pick (eqb tag 0) None (pick (eqb tag 1) (Some (proposal_of x (index y))) (Some (proposal_of 0 (index 0))))
+pending_of tag x y = pick (eqb tag 0) None (pick (eqb tag 1) (Some (proposal_at x (index y))) (Some (proposal_at 0 (index 0))))
 
 unfoldable pub record_in : List ℕ → Pending
 record_in b = pending_of (byte 0 b) (byte 1 b) (byte 2 b)

@@ -10,7 +10,7 @@ use Rattle.std.specs.Io.KnownBytes.{Consumes}
 use Rattle.std.proofs.KnownBytes.{Consumes-trans}
 use Rattle.input.specs.Received.{IsPrefixLen, ReadAt, Received}
 
-counts : (n : ℕ) (l : List ℕ) → n ≤ length l → IsPrefixLen n l
+pub counts : (n : ℕ) (l : List ℕ) → n ≤ length l → IsPrefixLen n l
 counts n l h = (h, sym (length-take-le n l h))
 
 -- one more read puts so many bytes after those that stand there

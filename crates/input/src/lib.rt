@@ -89,6 +89,20 @@ pub fn zeros<const N: usize>() -> [u8; N]
     [0; N]
 }
 
+// Room for a sheet and one byte more, by which a long sheet shows.
+pub fn sheet_buffer() -> [u8; 60_001]
+    ensures { Zeros 60001 result }
+{
+    zeros()
+}
+
+// Room for what one read brings.
+pub fn large_buffer() -> [u8; CHUNK_ROOM]
+    ensures { Zeros 65536 result }
+{
+    zeros()
+}
+
 // One read, put at a place of the buffer: how many bytes came. It goes by way of a chunk: of the bytes
 // in the slice that it is lent, a reader promises nothing, not even of those past its count.
 fn read_some<R: Source>(
@@ -121,7 +135,7 @@ pub fn read_input<R: Source>(reader: &mut R, buf: &mut [u8]) -> Result<usize, Re
     ensures end { IfOk result (λ n. n < length buf.old → IsAtEnd (R.remaining reader.new)) }
     ensures failed { OnErr result (R.failed reader.new) }
 {
-    let mut chunk = zeros::<CHUNK_ROOM>();
+    let mut chunk = large_buffer();
     let mut done = 0;
     while done < buf.len() {
         let more = read_some(reader, buf, done, &mut chunk)?;
@@ -133,13 +147,13 @@ pub fn read_input<R: Source>(reader: &mut R, buf: &mut [u8]) -> Result<usize, Re
     Ok(done)
 }
 
-// Every loop has to end, and no input takes so many reads.
-const SKIP_LIMIT: u64 = 1 << 63;
+// Turns enough for 4 GiB by full reads: an input without end is answered too.
+const SKIP_LIMIT: u32 = 65_536;
 
 // Reads the rest of an input that is too long, so that whoever writes it is not cut off. What comes is
 // dropped, and nothing is answered.
 fn skip_rest<R: Source>(reader: &mut R) {
-    let mut rest = zeros::<CHUNK_ROOM>();
+    let mut rest = large_buffer();
     for _ in 0..SKIP_LIMIT {
         if reader.read(&mut rest).unwrap_or(0) == 0 {
             break;

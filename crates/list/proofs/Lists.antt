@@ -10,26 +10,40 @@ use borrow.Author.Tests.{eq-eqb, eqb-true, eqb-false, lt-ltb, le-ltb}
 use lib.Dec.{eqb}
 use lib.ListN.{length, take, drop, get_or, set, length-set, take-append-drop, get_or-append}
 use lib.Seq.{drop-length}
-use Rattle.std.specs.Prelude.{Result, Ok, Err}
-use Rattle.std.specs.Result.{IsErrAnd}
+use Rattle.std.specs.Prelude.{Err}
 use Rattle.std.specs.Int.{div_ceil}
 use Rattle.std.proofs.lemmas.List.{take_more_set, drop-set-lt, drop_more, drop_at, drop_all, drop-drop, get_or-drop, length-drop}
 use Rattle.view.specs.Logic.{pick}
 use Rattle.view.proofs.Laws.{by_test, and_left, and_right, and_intro, true_is_not_false}
 use Rattle.system.specs.declared.System.{System}
-use Rattle.system.specs.declared.refusal.Refusal.{Refusal}
 use Rattle.system.specs.declared.refusal.Refusal.TheVariants.{Unsound, BadLine}
-use Rattle.system.specs.Refusal.{answer_number}
-use Rattle.system.specs.Outcome.{Outcome}
+use Rattle.system.specs.Outcome.{Outcome, refused}
 use Rattle.sound.specs.Sound.{sound_system}
-use Rattle.plan.specs.declared.Step.{Step}
+use Rattle.plan.specs.declared.Cut.{Cut}
 use Rattle.step.specs.Step.{stepped}
 use Rattle.image.specs.Image.{system_in}
 use Rattle.alternatives.specs.Gives.{Gives}
-use Rattle.alternatives.proofs.Carrying.{refused_gives, answer_gives}
+use Rattle.alternatives.proofs.Carrying.{refused_gives}
 use Rattle.list.specs.List.{cut_of, Order, order_of, order_count, order_at, orders_from, orders_in, obeyed, numbers_of, system_after, all_refused, Performs}
 
--- ---- an order
+-- ---- an order: kinds 0 to 3 are steps
+module _ (kind x y : ℕ) (c : Cut) where
+  pub unknown_kind : 3 < kind → order_of kind x y c ≡ Err BadLine
+  unfolding order_of pick
+  unknown_kind high = rw (off 0 (omega arith), off 1 (omega arith), off 2 (omega arith), off 3 (omega arith))
+    where
+      off : (n : ℕ) → n < kind → eqb kind n ≡ false
+      off n low = by_test (eqb kind n) (λ e. absurd (omega (arith, eqb-true kind n e))) (λ e. e)
+
+  pub unsound_kind : (s : System) → kind ≤ 3 → sound_system s ≡ false → obeyed s (order_of kind x y c) ≡ refused 1 s
+  unfolding obeyed order_of stepped pick
+  unsound_kind s low off =
+      by_test (eqb kind 0) (λ e. rw (e, off)) (λ e.
+      by_test (eqb kind 1) (λ f. rw (e, f, off)) (λ f.
+      by_test (eqb kind 2) (λ g. rw (e, f, g, off)) (λ g.
+      by_test (eqb kind 3) (λ h. rw (e, f, g, h, off)) (λ h.
+      absurd (omega (arith, eqb-false kind 0 e, eqb-false kind 1 f, eqb-false kind 2 g, eqb-false kind 3 h))))))
+
 module _ (order : List ℕ) where
   abbrev said : Order
   said = order_of (get_or order 0 0) (get_or order 1 0) (get_or order 2 0) (cut_of (get_or order 3 0))
@@ -44,20 +58,15 @@ module _ (order : List ℕ) where
     unfolding obeyed order_at pick
     broken_off short = refused_gives b _ BadLine (rw (le-ltb 3 (length order - 0) (omega arith)))
 
-    pub no_order : (x : Result (Unit {0}) Refusal) (r : Refusal) → IsErrAnd x (λ y. y ≡ r) → 4 ≤ length order → Err r ≡ said
-        → Gives (obeyed (system_in b) (order_at order 0)) b (answer_number x) b
+    pub no_kind : 4 ≤ length order → 3 < get_or order 0 0 → Gives (obeyed (system_in b) (order_at order 0)) b 8 b
     unfolding obeyed
-    no_order x r passed long told = answer_gives b _ x r passed (rw (says long, ← told))
+    no_kind long high = refused_gives b _ BadLine (rw (says long, unknown_kind _ _ _ _ high))
 
-    pub obeys : (o : Step) (k : ℕ) (d : List ℕ) → 4 ≤ length order → Ok o ≡ said → sound_system (system_in b) ≡ true
-        → (sound_system (system_in b) ≡ true → Gives (stepped (system_in b) o) b k d)
-        → Gives (obeyed (system_in b) (order_at order 0)) b k d
-    unfolding obeyed
-    obeys o k d long told sound steps = let g = steps sound in record { outcome = g.outcome ∙ sym (rw (says long, ← told)); kept = g.kept; other_length = g.other_length }
+    pub obeys : (k : ℕ) (d : List ℕ) → 4 ≤ length order → Gives (obeyed (system_in b) said) b k d → Gives (obeyed (system_in b) (order_at order 0)) b k d
+    obeys k d long gives = rw (says long) gives
 
-    pub not_obeyed : (o : Step) → 4 ≤ length order → Ok o ≡ said → sound_system (system_in b) ≡ false → Gives (obeyed (system_in b) (order_at order 0)) b 1 b
-    unfolding obeyed stepped pick
-    not_obeyed o long told off = refused_gives b _ Unsound (rw (says long, ← told, off))
+    pub not_obeyed : 4 ≤ length order → get_or order 0 0 ≤ 3 → sound_system (system_in b) ≡ false → Gives (obeyed (system_in b) (order_at order 0)) b 1 b
+    not_obeyed long low off = refused_gives b _ Unsound (rw (says long) (unsound_kind _ _ _ _ (system_in b) low off))
 
 -- ---- how many orders there are
 order_left : (list : List ℕ) (i : ℕ) → 0 < length list - 4 * i → i < order_count list

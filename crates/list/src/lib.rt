@@ -1,7 +1,7 @@
 // A list of steps, in bytes, on one image.
 #![tactic(auto)]
 
-ghost use Rattle.std.specs.Prelude.{◌≡◌, ◌≤◌, length, Ok};
+ghost use Rattle.std.specs.Prelude.{◌≡◌, ◌≤◌, true, length};
 ghost use Rattle.system.specs.Refusal.{answer_number};
 ghost use Rattle.sound.specs.Sound.{sound_system};
 ghost use Rattle.plan.specs.declared.Action.{Action};
@@ -9,8 +9,8 @@ ghost use Rattle.image.specs.Image.{system_in};
 ghost use Rattle.alternatives.specs.Gives.{Gives};
 ghost use Rattle.list.specs.List.{cut_of, order_of, order_at, obeyed, Performs};
 
-use engine::attempt;
-use plan::{Action, Cut, Step};
+use engine::{do_crash, do_receive, do_report, do_respond};
+use plan::Cut;
 use system::refusal::{Refusal, number_of};
 use view::ProcessId;
 
@@ -29,26 +29,24 @@ fn cut_of(byte: u8) -> Cut
     }
 }
 
-// What the four bytes of an order say. No `TryFrom`: the type is crate plan's, which knows nothing of such bytes.
-#[tactic(auto, unfolding(crate::specs::List::order_of, view::specs::Logic::pick))]
-fn step_of(kind: u8, x: u8, y: u8, last: u8) -> Result<Step, Refusal>
-    ensures { result ≡ order_of kind x y (cut_of last) }
+// The step of a kind, 0 to 3: the engine's function for it is called at once, so that no step stands in memory.
+#[inline(always)]
+fn obey_kind(image: &mut [u8], kind: u8, x: u8, y: u8, cut: Cut) -> Result<(), Refusal>
+    requires known { kind ≤ 3 }
+    requires sound { sound_system (system_in image.old) ≡ true }
+    ensures gives { Gives (obeyed (system_in image.old) (order_of kind x y cut)) image.old (answer_number result) image.new }
+    ensures stays { sound_system (system_in image.new) ≡ true }
 {
-    let action = match kind {
-        0 => Action::Report(ProcessId(x), y),
-        1 => Action::Receive(ProcessId(x), ProcessId(y)),
-        2 => Action::Respond(ProcessId(x), ProcessId(y)),
-        3 => Action::Crash(ProcessId(x)),
-        _ => return Err(Refusal::BadLine),
-    };
-    Ok(Step {
-        action,
-        cut: cut_of(last),
-    })
+    match kind {
+        0 => do_report(image, ProcessId(x), y, cut),
+        1 => do_receive(image, ProcessId(x), ProcessId(y), cut),
+        2 => do_respond(image, ProcessId(x), ProcessId(y), cut),
+        _ => do_crash(image, ProcessId(x), cut),
+    }
 }
 
 // What an order does to an image whose system is sound, or is not.
-#[tactic(auto, using(crate::proofs::Lists::broken_off, crate::proofs::Lists::no_order, crate::proofs::Lists::obeys, crate::proofs::Lists::not_obeyed))]
+#[tactic(auto, using(crate::proofs::Lists::broken_off))]
 fn obey(image: &mut [u8], good: bool, order: &[u8]) -> Result<(), Refusal>
     requires short { length order.now ≤ 4 }
     requires tested { good ≡ sound_system (system_in image.old) }
@@ -59,9 +57,10 @@ fn obey(image: &mut [u8], good: bool, order: &[u8]) -> Result<(), Refusal>
     let [kind, x, y, last] = order else {
         return Err(Refusal::BadLine);
     };
-    let step = step_of(*kind, *x, *y, *last)?;
-    if good {
-        attempt(image, step)
+    if 3 < *kind {
+        Err(Refusal::BadLine)
+    } else if good {
+        obey_kind(image, *kind, *x, *y, cut_of(*last))
     } else {
         Err(Refusal::Unsound)
     }

@@ -16,7 +16,7 @@ use Rattle.alternatives.proofs.Carrying.{some_number}
 use Rattle.settling.specs.declared.Ending.TheVariants.{Held}
 use Rattle.settling.specs.Settle.{settled}
 use Rattle.settle.specs.declared.Settling.{Settling}
-use Rattle.settle.specs.Settles.{settled_as, Settles}
+use Rattle.settle.specs.Settles.{settled_told, Settles}
 
 -- bytes a become b by `encode` of s, and c by a call
 module _ (s : System) (a b c : List ℕ) (l : Lengths s) (long : length a ≡ image_width) (e : length b ≡ length a) (f : length c ≡ length b)
@@ -34,7 +34,7 @@ module _ (s : System) (a b c : List ℕ) (l : Lengths s) (long : length a ≡ im
 
     pub settled_between : (budget : ℕ) (r : Settling) → Settles budget b (Ok r) c
         → record { refusal = 0; steps = r.steps; ending = r.ending; system = t } ≡ settled budget s
-    unfolding settled_as
+    unfolding settled_told
     settled_between budget r run = rw (now, run.outcome, held)
 
   -- the call changed nothing
@@ -46,7 +46,7 @@ module _ (s : System) (a b c : List ℕ) (l : Lengths s) (long : length a ≡ im
 
   pub unsettled_between : (budget : ℕ) (k : Refusal) → Settles budget b (Err k) c
       → record { refusal = number k; steps = 0; ending = Held; system = s } ≡ settled budget s
-  unfolding settled_as
+  unfolding settled_told
   unsettled_between budget k run =
       ap (λ (x : System). record { refusal = number k; steps = 0; ending = Held; system = x }) (sym (ap system_in (run.kept refl) ∙ held))
       ∙ run.outcome

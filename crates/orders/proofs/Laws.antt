@@ -1,5 +1,5 @@
 -- A turn, move by move: what one more move adds to it, and how many runs there are at most.
-use Prim.Native.Nat.{ℕ, zero, suc, ◌+◌, ◌-◌, ◌*◌, ◌^◌, ◌≤◌, ◌<◌}
+use Prim.Native.Nat.{ℕ, zero, suc, ◌+◌, ◌-◌, ◌*◌, ◌^◌, ◌≤◌, ◌<◌, min}
 use mathlib.Core.Path.{◌≡◌, refl, sym, ◌∙◌, ap}
 use mathlib.Core.Bool.{Bool, true, false}
 use mathlib.Core.List.{List, [], ◌∷◌, ◌++◌, map, append_assoc, append-nil}
@@ -25,7 +25,7 @@ use Rattle.image.specs.Image.{image_width, system_in}
 use Rattle.alternatives.proofs.Carrying.{some_number}
 use Rattle.engine.specs.Engine.{Attempts}
 use Rattle.orders.specs.declared.RunCounts.{RunCounts}
-use Rattle.orders.specs.Orders.{link_moves, process_moves, Choice, pass, make, Run, ended_at, begun_with, begun_by, by_moves, turned, link_turn, process_turn, goes_beyond, entered_among, run_counts_of}
+use Rattle.orders.specs.Orders.{link_moves, process_moves, Choice, pass, make, Run, ended_at, begun_with, begun_by, by_moves, turned, link_turn, process_turn, goes_beyond, entered_among, run_counts_of, together, FitsTogether}
 use Rattle.orders.specs.Walks.{link_move_at, process_move_at, Walks, Tries}
 use Rattle.orders.proofs.Moves.{numbered, places_length, link_places, process_places, few_link_moves, few_process_moves}
 
@@ -154,6 +154,13 @@ sum_fits next s n k f few h total more so_far t after =
       omega (arith, all, one),
       omega (arith, all, one, entered_few n (turned next s (numbered f k)), entered_few n (next t)),
     )
+
+-- where both sums fit, none stays at the end
+pub whole_sum : (a b : RunCounts) → FitsTogether a b → together a b ≡ record { runs = a.runs + b.runs; entered = a.entered + b.entered }
+whole_sum a b fits =
+    let runs : min (a.runs + b.runs) 4294967295 ≡ a.runs + b.runs = omega (arith, fits.0) in
+    let entered : min (a.entered + b.entered) 4294967295 ≡ a.entered + b.entered = omega (arith, fits.1) in
+    rw (runs, entered) refl
 
 -- ---- the last turn, and one before it
 pub last_link : (d n : ℕ) (s : System) → d ≡ 0 → link_turn d n s ≡ ended_at s ∷ []

@@ -2,7 +2,7 @@
 -- first. The link may report any allowed view at one unit, stop one, or pass. Then the units may take one message, answer once, or pass,
 -- and the turn goes back. Refused moves are not choices; cuts, and later returns and sets, are left out. Print the number of runs of
 -- exactly that depth, and how many end with an entry beyond position 1."
-use Rattle.std.specs.Prelude.{ℕ, zero, suc, ◌+◌, Bool, ◌&&◌, ◌||◌, not, List, [], ◌∷◌, ◌++◌, Result, Ok, Err, map, eqb, leb, length}
+use Rattle.std.specs.Prelude.{ℕ, zero, suc, ◌+◌, ◌≤◌, min, Bool, ◌&&◌, ◌||◌, not, List, [], ◌∷◌, ◌++◌, Result, Ok, Err, map, eqb, leb, length}
 use Rattle.view.specs.declared.ProcessId.{ProcessId}
 use Rattle.view.specs.Logic.{pick, unless, all_up_to, each_up_to, is_one_of}
 use Rattle.view.specs.View.{everyone}
@@ -113,6 +113,13 @@ entered_among n (r ∷ rs) = pick (goes_beyond n r.end) 1 0 + entered_among n rs
 -- "the number of runs of exactly that depth, and how many end with an entry beyond position 1"
 unfoldable pub run_counts_of : ℕ → List Run → RunCounts
 run_counts_of n rs = record { runs = length rs; entered = entered_among n rs }
+
+-- two counts, added up: a sum past the end stays at the largest number; and that none passes it
+abbrev pub together : RunCounts → RunCounts → RunCounts
+together a b = record { runs = min (a.runs + b.runs) 4294967295; entered = min (a.entered + b.entered) 4294967295 }
+
+abbrev pub FitsTogether : RunCounts → RunCounts → Type 0
+FitsTogether a b = (a.runs + b.runs ≤ 4294967295) × (a.entered + b.entered ≤ 4294967295)
 
 -- ---- the answer
 -- Refusal 2, "a fresh table is wanted of a wrong size"; "14 too deep, for depth above 8 or more than 2 units, after 2"

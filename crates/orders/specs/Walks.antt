@@ -8,7 +8,6 @@ use Rattle.plan.specs.declared.Action.TheVariants.{Report, Receive, Respond, Cra
 use Rattle.plan.specs.Cut.{whole}
 use Rattle.step.specs.Step.{stepped}
 use Rattle.image.specs.Image.{image_width, system_in}
-use Rattle.orders.specs.declared.RunCounts.{RunCounts}
 use Rattle.orders.specs.Orders.{process}
 
 -- the moves of the link by their places, counted from 0: for each process a report of each view of n processes but the empty one, and last
@@ -34,10 +33,3 @@ pub record Tries (o : Action) (s : System) (r : Bool) (c : List ℕ) : Type 0 wh
   pub answer : r ≡ eqb (stepped s (whole o)).refusal 0
   pub system : system_in c ≡ (stepped s (whole o)).system
   pub stays : sound_system (system_in c) ≡ true
-
--- two counts, added up; and that they can be
-abbrev pub together : RunCounts → RunCounts → RunCounts
-together a b = record { runs = a.runs + b.runs; entered = a.entered + b.entered }
-
-abbrev pub FitsTogether : RunCounts → RunCounts → Type 0
-FitsTogether a b = (a.runs + b.runs ≤ 4294967295) × (a.entered + b.entered ≤ 4294967295)

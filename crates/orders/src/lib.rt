@@ -8,8 +8,8 @@ ghost use Rattle.view.specs.View.{everyone};
 ghost use Rattle.system.specs.Fresh.{fresh_system};
 ghost use Rattle.sound.specs.Sound.{sound_system};
 ghost use Rattle.image.specs.Image.{system_in};
-ghost use Rattle.orders.specs.Orders.{ended_at, link_turn, process_turn, old_at, all_old_at, goes_beyond, run_counts_of, walked};
-ghost use Rattle.orders.specs.Walks.{link_move_at, process_move_at, together, FitsTogether, Walks, Tries};
+ghost use Rattle.orders.specs.Orders.{ended_at, link_turn, process_turn, old_at, all_old_at, goes_beyond, run_counts_of, walked, together};
+ghost use Rattle.orders.specs.Walks.{link_move_at, process_move_at, Walks, Tries};
 
 use engine::attempt;
 use fresh::put_fresh;
@@ -26,17 +26,16 @@ pub struct RunCounts {
     pub entered: u32,
 }
 
+// Two counts added up, of any two, so that nobody has to ask first: a sum past the end stays at the largest number.
 impl Add for RunCounts {
     type Output = RunCounts;
-
-    ghost can_add = { FitsTogether };
 
     ghost add_gives = { λ a b c. c ≡ together a b };
 
     fn add(self, other: RunCounts) -> RunCounts {
         RunCounts {
-            runs: self.runs + other.runs,
-            entered: self.entered + other.entered,
+            runs: self.runs.saturating_add(other.runs),
+            entered: self.entered.saturating_add(other.entered),
         }
     }
 }

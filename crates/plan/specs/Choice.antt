@@ -3,7 +3,7 @@ use Rattle.std.specs.Prelude.{ℕ, ◌+◌, ◌<◌, Result, Ok, Err, None, Some
 use Rattle.view.specs.View.{with, minus, everyone}
 use Rattle.view.specs.declared.ProcessId.{ProcessId}
 use Rattle.channel.specs.declared.Message.TheVariants.{Propose, Commit}
-use Rattle.system.specs.Process.{index, proposal_of}
+use Rattle.system.specs.Process.{index, proposal_at}
 use Rattle.system.specs.declared.refusal.Refusal.{Refusal}
 use Rattle.system.specs.Refusal.{number}
 use Rattle.system.specs.declared.Variables.{Variables}
@@ -30,7 +30,7 @@ report_fits x ProposeAfter = x.propout.0 < 32
 -- ---- a message of process q, taken at a process whose variables are x
 unfoldable pub received_plan : ProcessId → Variables → Result ReceiveChoice Refusal → Planned
 received_plan q x (Err r) = refusing (number r) x
-received_plan q x (Ok (Record v i)) = quietly (recording x q (Some (proposal_of v i)))
+received_plan q x (Ok (Record v i)) = quietly (recording x q (Some (proposal_at v i)))
 received_plan q x (Ok Skip) = quietly (assigning x)
 received_plan q x (Ok (Mark acks)) = quietly (assigning (with_acks x acks))
 received_plan q x (Ok CommitAll) = sending (assigning (with_acks x 0)) x.proposal (Commit x.proposal x.propout)

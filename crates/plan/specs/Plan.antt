@@ -8,7 +8,7 @@ use Rattle.channel.specs.declared.Message.{Message}
 use Rattle.channel.specs.declared.Message.TheVariants.{Propose, Retry, Acc, Commit}
 use Rattle.system.specs.declared.Variables.{Variables}
 use Rattle.system.specs.declared.Process.{Process}
-use Rattle.system.specs.Process.{Pending, proposal_of, index, with_entry}
+use Rattle.system.specs.Process.{Pending, proposal_at, index, with_entry}
 use Rattle.plan.specs.declared.Action.{Action}
 use Rattle.plan.specs.declared.Action.TheVariants.{Report, Receive, Respond, Crash}
 use Rattle.plan.specs.declared.Change.{Change}
@@ -101,7 +101,7 @@ committing_plan x =
 -- Second guarded command: R_q?m at p, by the type of m.
 unfoldable pub message_plan : ProcessId → ℕ → Variables → Message → Planned
 --   Propose → (v[q], PropIn[q]) := m; Prop[q] := true
-message_plan q p x (Propose v i) = quietly (recording x q (Some (proposal_of v i)))
+message_plan q p x (Propose v i) = quietly (recording x q (Some (proposal_at v i)))
 --   Retry → (old, new) := m; [ PropOut = old ∧ p = min(v_p) → PropOut := new; SN_q! Propose(v_p, PropOut) for q in v_p; ack := 0
 --   [] else → skip ]. Refusal 6: "a Retry that would be acted on, with new 33".
 message_plan q p x (Retry old new) =

@@ -38,9 +38,11 @@ impl<'a> Page<'a> {
     pub fn byte(&mut self, b: u8)
         ensures { self.new ≡ typed_on self.old (b ∷ []) }
     {
-        if self.place < self.buffer.len() {
-            self.buffer[self.place] = b;
-            self.place += 1;
+        // The place is not read again after the byte is written: the compiler keeps it in a register.
+        let at = self.place;
+        if at < self.buffer.len() {
+            self.buffer[at] = b;
+            self.place = at + 1;
         }
     }
 
@@ -73,19 +75,40 @@ impl<'a> Page<'a> {
     }
 
     // A number in decimal. By hand: std writes numbers by `write!` alone, which promises its text only
-    // where it answers `Ok`. Most have one or two digits, which are typed without a turn.
+    // where it answers `Ok`. Up to five digits are typed without a turn: no line of a sheet has a longer number.
     pub fn decimal(&mut self, k: usize)
         ensures { self.new ≡ typed_on self.old (decimal k) }
     {
-        let tens = k / 10;
         if k < 10 {
-            self.digit(k);
-        } else if tens < 10 {
-            self.digit(tens);
-            self.digit(k);
-        } else {
-            self.digits(20, k);
+            return self.digit(k);
         }
+        let tens = k / 10;
+        if tens < 10 {
+            self.digit(tens);
+            return self.digit(k);
+        }
+        let hundreds = tens / 10;
+        if hundreds < 10 {
+            self.digit(hundreds);
+            self.digit(tens);
+            return self.digit(k);
+        }
+        let thousands = hundreds / 10;
+        if thousands < 10 {
+            self.digit(thousands);
+            self.digit(hundreds);
+            self.digit(tens);
+            return self.digit(k);
+        }
+        let myriads = thousands / 10;
+        if myriads < 10 {
+            self.digit(myriads);
+            self.digit(thousands);
+            self.digit(hundreds);
+            self.digit(tens);
+            return self.digit(k);
+        }
+        self.digits(20, k);
     }
 
     // The digit of a process, if the view names it.

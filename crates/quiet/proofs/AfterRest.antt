@@ -13,7 +13,7 @@ use Rattle.view.proofs.Sets.{has_none}
 use Rattle.channel.specs.declared.Message.{Message}
 use Rattle.channel.proofs.Laws.{length-waiting}
 use Rattle.system.specs.declared.System.{System}
-use Rattle.system.specs.Process.{entry_at, with_entry, pending_at, proposal_of}
+use Rattle.system.specs.Process.{entry_at, with_entry, pending_at, proposal_at}
 use Rattle.system.specs.System.{process_at, variables_at, channel_at, entry_in}
 use Rattle.plan.specs.declared.Action.{Action}
 use Rattle.plan.specs.declared.Action.TheVariants.{Report}
@@ -34,7 +34,7 @@ module _ {s : System} (resting : Resting s) where
   nothing_taken : {q p : ℕ} {m : Message} {left : ℕ → ℕ → List Message} → Known s q → Known s p → Taken s q p m left → ⊥
   nothing_taken kq kp k = grind arith
 
-  nothing_answered : {p q : ℕ} {v : ℕ} {i : GroupIndex} → Acts s p → Known s q → pending_at (process_at s p) q ≡ Some (proposal_of v i) → v ≡ (variables_at s p).view → ⊥
+  nothing_answered : {p q : ℕ} {v : ℕ} {i : GroupIndex} → Acts s p → Known s q → pending_at (process_at s p) q ≡ Some (proposal_at v i) → v ≡ (variables_at s p).view → ⊥
   unfolding matches
   nothing_answered {p} {q} k kq recorded same = let e = resting.unanswerable p q k.known kq k.live in grind arith
 

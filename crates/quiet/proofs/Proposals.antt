@@ -14,7 +14,7 @@ use Rattle.channel.specs.declared.Message.{Message}
 use Rattle.channel.specs.declared.Message.TheVariants.{Propose, Retry, Acc, Commit}
 use Rattle.system.specs.declared.Variables.{Variables}
 use Rattle.system.specs.declared.System.{System}
-use Rattle.system.specs.Process.{pending_at, Pending, proposal_of}
+use Rattle.system.specs.Process.{pending_at, Pending, proposal_at}
 use Rattle.system.specs.System.{process_at, variables_at}
 use Rattle.system.specs.Fresh.{fresh_system}
 use Rattle.plan.specs.declared.Change.{Change}
@@ -183,7 +183,7 @@ module _ {s t : System} {acc : List Acceptance} (r : Reached s acc) (o : Proposa
   recorded_rising : {q p : ℕ} {w : ℕ} {i : GroupIndex} {left : ℕ → ℕ → List Message} {c : Change} {stops : Bool} {to : ℕ} {m : Message}
       → Taken s q p (Propose w i) left
       → Effect s t left p c stops to m
-      → c.pending ≡ Some (proposal_of w i)
+      → c.pending ≡ Some (proposal_at w i)
       → c.proposer.0 ≡ q
       → Known s q
       → (a b : ℕ)

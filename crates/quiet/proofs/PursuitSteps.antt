@@ -15,7 +15,7 @@ use Rattle.channel.specs.declared.Message.{Message}
 use Rattle.channel.specs.declared.Message.TheVariants.{Propose}
 use Rattle.system.specs.declared.Variables.{Variables}
 use Rattle.system.specs.declared.System.{System}
-use Rattle.system.specs.Process.{pending_at, Pending, proposal_of}
+use Rattle.system.specs.Process.{pending_at, Pending, proposal_at}
 use Rattle.system.specs.System.{process_at, variables_at}
 use Rattle.plan.specs.declared.Change.{Change}
 use Rattle.plan.specs.declared.Action.{Action}
@@ -128,7 +128,7 @@ module _ {gone then : ℕ → Bool} {s t : System} {acc : List Acceptance} (g : 
       (all_acks k.effect (λ u e. e) x)
       (λ u e. absurd e.this)
     where
-      new : pending_at (process_at t p.0) q.0 ≡ Some (proposal_of k.view k.index)
+      new : pending_at (process_at t p.0) q.0 ≡ Some (proposal_at k.view k.index)
       new = recorded_new k.effect r.shape k.partner
 
       fresh : {u : ℕ} → u ≡ p.0 → x ≡ q.0 → k.index.0 ≡ (variables_at s x).propout.0 → Notes (variables_at s x).propout.0 (pending_at (process_at t u) x)
@@ -148,7 +148,7 @@ module _ {gone then : ℕ → Bool} {s t : System} {acc : List Acceptance} (g : 
   -- an answer to the recorded proposal at index i
   answering : {a q : ℕ} {c : Change} {stops : Bool} {m : Message} → Effect s t (waiting_at s) a c stops (with 0 q) m → c.proposer.0 ≡ q → Known s q
       → {v : ℕ} {i : GroupIndex}
-      → pending_at (process_at s a) q ≡ Some (proposal_of v i)
+      → pending_at (process_at s a) q ≡ Some (proposal_at v i)
       → Replies i.0 m
       → (p : ℕ)
       → Steady s t p

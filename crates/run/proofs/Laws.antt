@@ -21,7 +21,7 @@ use Rattle.std.specs.Prelude.{Result, Ok, Err}
 use Rattle.sheet.specs.declared.parse.BadFrom.{BadFrom}
 use Rattle.sheet.specs.declared.parse.Line.{Line}
 use Rattle.sheet.specs.Lines.{lines_of}
-use Rattle.sheet.specs.Grammar.{bad_from as bad_from_column}
+use Rattle.sheet.specs.Grammar.{from_column}
 use Rattle.sheet.specs.Parse.{meaning_first, opened, parsed}
 use Rattle.sheet.proofs.Laws.{few_bytes, few_lines}
 use Rattle.sheet.proofs.GoodLines.{fresh_size}
@@ -78,7 +78,7 @@ tallied_end total a m b lines line s none whole counts here =
     here ∙ ap (λ (t : Tally). capped (plus a t)) counts ∙ sym (whole ∙ ap (tallied_from line a s) none)
 
 -- after a bad first line: its own column, and then 0
-pub bad_begins : (p q : Page) (column : ℕ) (ls : List (List ℕ)) → q ≡ typed_on p (column_line 1 8 column) → typed_on p (started_by (Err (bad_from_column column)) ls) ≡ typed_on q (bad_from 2 ls)
+pub bad_begins : (p q : Page) (column : ℕ) (ls : List (List ℕ)) → q ≡ typed_on p (column_line 1 8 column) → typed_on p (started_by (Err (from_column column)) ls) ≡ typed_on q (bad_from 2 ls)
 unfolding started_by bad_line meaning_first at
 bad_begins p q column ls here = then _ p q (column_line 1 8 column) (bad_from 2 ls) refl here
 

@@ -6,7 +6,7 @@ ghost use Rattle.view.specs.Logic.{is_one_of};
 ghost use Rattle.tallies.specs.Tally.{no_tally};
 ghost use Rattle.system.specs.Fresh.{fresh_system};
 ghost use Rattle.print.specs.Page.{page, typed, typed_on, StandsFirst};
-ghost use Rattle.sheet.specs.Grammar.{bad_from};
+ghost use Rattle.sheet.specs.Grammar.{from_column};
 ghost use Rattle.sheet.specs.Reader.{lines_left};
 ghost use Rattle.run.specs.Output.{printed_from, started_by, output, tallied_from, sheet_tally, sheet_limit, output_limit};
 
@@ -21,9 +21,6 @@ use tallies::Tally;
 
 // A sheet of more bytes is a long one.
 pub const SHEET_LIMIT: usize = 60_000;
-
-// Room for a sheet and one byte more, by which a long sheet shows.
-pub const SHEET_ROOM: usize = SHEET_LIMIT + 1;
 
 // Room for what is printed for any sheet.
 pub const OUTPUT_ROOM: usize = 603_400;
@@ -41,7 +38,7 @@ pub struct SheetRun {
 // The lines that are left of a sheet after a first line that is bad from a column on.
 fn all_bad(lines: SheetReader, column: usize, page: &mut Page)
     requires { length lines.sheet.now ≤ sheet_limit }
-    ensures { page.new ≡ typed_on page.old (started_by (Err (bad_from column)) (lines_left lines.entry)) }
+    ensures { page.new ≡ typed_on page.old (started_by (Err (from_column column)) (lines_left lines.entry)) }
 {
     page.column(1, BAD_LINE, column);
     for (number, _) in (2..).zip(lines) {

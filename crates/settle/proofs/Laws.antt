@@ -29,7 +29,7 @@ use Rattle.settling.specs.declared.Half.TheVariants.{Takes, Answers}
 use Rattle.settling.specs.Settle.{Progress, passing, tried, round_done, unless_idle, rounds_done, none_done, nothing_to_do, ending_of, ended_with, outset, settled_from, settled, settled_tally}
 use Rattle.settling.proofs.Idle.{looks_round}
 use Rattle.settle.specs.declared.Run.{Run}
-use Rattle.settle.specs.Settles.{settled_as, tally_in, Settles}
+use Rattle.settle.specs.Settles.{settled_told, tally_in, Settles}
 use Rattle.settle.specs.Advances.{progress_of, Advances, Begins}
 
 -- ---- one after the other
@@ -252,7 +252,7 @@ module _ (budget : ℕ) (image : MutBor (List ℕ)) (x y : Run) (new : Begins bu
 
   pub run_settles : (e : Ending) → Advances (rounds_done (suc x.budget) x.budget x.n) x y → e ≡ ending_of y.budget (progress_of y [])
       → (d : List ℕ) → d ≡ y.image.now → Settles budget image.now (Ok (record { steps = y.steps; ending = e; tally = y.tally })) d
-  unfolding settled settled_tally settled_as tally_in ended_with ending_of pick
+  unfolding settled settled_tally settled_told tally_in ended_with ending_of pick
   run_settles e run ends d left =
       let reached = run_reached run in
       let ended : e ≡ ending_of budget (progress_of y []) = ends ∙ ap (λ (k : ℕ). ending_of k (progress_of y [])) (run.same_budget ∙ new.budget_is) in
@@ -286,6 +286,6 @@ module _ (budget : ℕ) (image : MutBor (List ℕ)) (x y : Run) (new : Begins bu
           (λ none. true_is_not_false (sym ((looks_round budget x.n).idle start (omega (arith, some, new.steps)) (sym is ∙ none ∙ sym new.steps)).0 ∙ e))
 
 pub unsound_settles : (budget : ℕ) (b : List ℕ) → sound_system (system_in b) ≡ false → Settles budget b (Err Unsound) b
-unfolding settled settled_tally settled_as tally_in pick
+unfolding settled settled_tally settled_told tally_in pick
 unsound_settles budget b off =
     record { outcome = rw off refl; tally = rw off refl; kept = λ e. refl; stays = λ on. true_is_not_false (sym on ∙ off) }

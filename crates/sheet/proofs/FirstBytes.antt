@@ -20,7 +20,7 @@ use Rattle.std.specs.Prelude.{Result, Ok, Err}
 use Rattle.sheet.specs.declared.parse.BadFrom.{BadFrom}
 use Rattle.sheet.specs.declared.parse.Line.{Line}
 use Rattle.sheet.specs.declared.parse.Line.TheVariants.{Step, Settle}
-use Rattle.sheet.specs.Grammar.{Piece, byte, size, digit, view, Form, form, piece, value_of, bad_from, passed, ended, onward, some}
+use Rattle.sheet.specs.Grammar.{Piece, byte, size, digit, view, Form, form, piece, value_of, from_column, passed, ended, onward, some}
 use Rattle.sheet.specs.Parse.{process, first_forms, later_forms, opened, parsed}
 use Rattle.sheet.specs.Cursor.{◌>>=◌, byte_at, text_at, digit_at, process_at, view_at, end_at, cut_at}
 use Rattle.sheet.proofs.Forms.{bad, read_from_lem, goes_on, is_stuck, breaks_off, ends, same_next}
@@ -198,7 +198,7 @@ form_at b l at =
     (pick (eqb b (code "t")) (process_at l at >>= λ q. process_at l q.1 >>= λ p. step_at (Receive q.0 p.0) l p.1)
     (pick (eqb b (code "a")) (process_at l at >>= λ p. process_at l p.1 >>= λ q. step_at (Respond p.0 q.0) l q.1)
     (pick (eqb b (code "s")) (process_at l at >>= λ p. end_at l p.1 >>= λ end. Ok (Step (whole (Crash p.0))))
-    (pick (eqb b (code "q")) (end_at l at >>= λ end. Ok Settle) (Err (bad_from 1))))))
+    (pick (eqb b (code "q")) (end_at l at >>= λ end. Ok Settle) (Err (from_column 1))))))
 
 module _ (l : List ℕ) where
   form_read : (b k : ℕ) → byte_at 0 255 l 0 ≡ Ok (b, k) → parsed l ≡ form_at b l k

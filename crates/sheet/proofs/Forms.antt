@@ -16,7 +16,7 @@ use Rattle.view.specs.View.{with}
 use Rattle.view.proofs.Laws.{true_is_not_false, or_left, or_right, by_pick}
 use Rattle.std.specs.Prelude.{Result, Ok, Err}
 use Rattle.sheet.specs.declared.parse.BadFrom.{BadFrom}
-use Rattle.sheet.specs.Grammar.{Piece, byte, size, digit, view, more, Form, form, rises, value_of, when, passed, ended, onward, ends_as, followed, readings, some, allowed, begins, greatest, column, bad_from, first_reading, read}
+use Rattle.sheet.specs.Grammar.{Piece, byte, size, digit, view, more, Form, form, rises, value_of, when, passed, ended, onward, ends_as, followed, readings, some, allowed, begins, greatest, column, from_column, first_reading, read}
 
 -- ---- two lists of forms, and two texts, one after the other
 pub some-append : {X : Type 0} (xs ys : List X) → some (xs ++ ys) ≡ (some xs || some ys)
@@ -175,10 +175,10 @@ column_is xs l = ap (λ (k : ℕ). k + 1) (longest xs l)
 
 -- ---- a line read byte by byte: k bytes have been followed to these forms, and l is left
 abbrev pub bad : {A : Type 0} → ℕ → Result A BadFrom
-bad k = Err (bad_from k)
+bad k = Err (from_column k)
 
 unfoldable pub read_from : {A : Type 0} → List (Form A) → ℕ → List ℕ → Result A BadFrom
-read_from xs k l = first_reading (readings xs l) (bad_from (k + reached xs l + 1))
+read_from xs k l = first_reading (readings xs l) (from_column (k + reached xs l + 1))
 
 module _ {A : Type 0} (xs : List (Form A)) where
   pub read_from_lem : (l : List ℕ) → read xs l ≡ read_from xs 0 l
@@ -204,8 +204,8 @@ module _ {A : Type 0} (xs : List (Form A)) where
   -- what the next byte leads to decides
   pub same_next : (ys : List (Form A)) (k b : ℕ) (bs : List ℕ) → flat_map (onward b) xs ≡ flat_map (onward b) ys → read_from xs k (b ∷ bs) ≡ read_from ys k (b ∷ bs)
   unfolding read_from readings reached followed
-  same_next ys k b bs is = ap (λ (zs : List (Form A)). first_reading (flat_map ends_as (followed zs bs)) (bad_from (k + pick (some zs) (suc (reached zs bs)) 0 + 1))) is
+  same_next ys k b bs is = ap (λ (zs : List (Form A)). first_reading (flat_map ends_as (followed zs bs)) (from_column (k + pick (some zs) (suc (reached zs bs)) 0 + 1))) is
 
   pub same_end : (ys : List (Form A)) (k : ℕ) → flat_map ends_as xs ≡ flat_map ends_as ys → read_from xs k [] ≡ read_from ys k []
   unfolding read_from readings reached followed
-  same_end ys k is = ap (λ (zs : List A). first_reading zs (bad_from (k + 0 + 1))) is
+  same_end ys k is = ap (λ (zs : List A). first_reading zs (from_column (k + 0 + 1))) is

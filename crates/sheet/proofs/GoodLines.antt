@@ -15,7 +15,7 @@ use Rattle.view.proofs.Laws.{is_one_of_lem}
 use Rattle.print.specs.Text.{bytes}
 use Rattle.std.specs.Prelude.{Result, Ok, Err, is_ok}
 use Rattle.sheet.specs.declared.parse.BadFrom.{BadFrom}
-use Rattle.sheet.specs.Grammar.{Piece, byte, size, digit, view, more, Form, form, is_digit, rises, value_of, when, passed, ended, onward, ends_as, followed, readings, some, allowed, column, bad_from, first_reading, read}
+use Rattle.sheet.specs.Grammar.{Piece, byte, size, digit, view, more, Form, form, is_digit, rises, value_of, when, passed, ended, onward, ends_as, followed, readings, some, allowed, column, from_column, first_reading, read}
 use Rattle.sheet.specs.Parse.{first_forms, later_forms, opened, parsed}
 use Rattle.sheet.specs.Cursor.{◌>>=◌, byte_at, text_at, end_at}
 use Rattle.sheet.proofs.Forms.{bad, in_first_lem, in_second, byte-read, view_ends}
@@ -187,11 +187,11 @@ none_said (r ∷ rs) e d is = let never : ⊥ = cc in absurd never
 module _ {A : Type 0} (xs : List (Form A)) (l : List ℕ) where
   good_if_allowed_of : is_ok (read xs l) ≡ allowed xs l
   unfolding read allowed
-  good_if_allowed_of = some_said (readings xs l) (bad_from (column xs l))
+  good_if_allowed_of = some_said (readings xs l) (from_column (column xs l))
 
   bad_column_of : (k : ℕ) → read xs l ≡ bad k → k ≡ column xs l
   unfolding read
-  bad_column_of k is = ap (λ (d : BadFrom). d.0) (sym (none_said (readings xs l) (bad_from (column xs l)) (bad_from k) is))
+  bad_column_of k is = ap (λ (d : BadFrom). d.0) (sym (none_said (readings xs l) (from_column (column xs l)) (from_column k) is))
 
 -- ---- the two lists of forms
 pub good_if_allowed_first : (l : List ℕ) → is_ok (opened l) ≡ allowed first_forms l

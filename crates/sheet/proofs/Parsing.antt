@@ -1,6 +1,6 @@
 -- How the code goes through a line, and what that means for the forms: piece by piece.
 use Prim.Native.Nat.{ℕ, suc, ◌+◌, ◌-◌, ◌≤◌, ◌<◌}
-use mathlib.Core.Path.{◌≡◌, refl, sym, ◌∙◌, ap}
+use mathlib.Core.Path.{◌≡◌, refl, sym, ◌∙◌, ap, subst}
 use mathlib.Core.Bool.{Bool, true, false, ◌&&◌}
 use mathlib.Core.List.{List, [], ◌∷◌, ◌++◌, map, flat_map}
 use native.Mathlib.Omega.{arith}
@@ -19,7 +19,7 @@ use Rattle.print.specs.Text.{bytes}
 use Rattle.std.specs.Prelude.{Result, Ok, Err, IsErrAnd}
 use Rattle.std.proofs.lemmas.Result.{err_from_is_err_and}
 use Rattle.sheet.specs.declared.parse.BadFrom.{BadFrom}
-use Rattle.sheet.specs.Grammar.{Piece, byte, size, digit, view, more, Form, form, rises, value_of, bad_from, when, passed, ended, onward, ends_as, some}
+use Rattle.sheet.specs.Grammar.{Piece, byte, size, digit, view, more, Form, form, rises, value_of, from_column, when, passed, ended, onward, ends_as, some}
 use Rattle.sheet.specs.Cursor.{◌>>=◌, byte_at, text_at, digit_at, process_at, risen, some_view, view_from, view_at, end_at}
 use Rattle.sheet.proofs.Forms.{bad, read_from, goes_on, is_stuck, breaks_off, ends, same_next, same_end}
 
@@ -56,7 +56,7 @@ module _ (low high : ℕ) (l : List ℕ) (at : ℕ) where
   unfolding byte_at pick
   byte_differs e is h = grind (arith, nat_tests)
 
-  pub byte_column : (e : BadFrom) → byte_at low high l at ≡ Err e → e ≡ bad_from (at + 1)
+  pub byte_column : (e : BadFrom) → byte_at low high l at ≡ Err e → e ≡ from_column (at + 1)
   unfolding byte_at pick
   byte_column e is = grind (arith, nat_tests)
 
@@ -284,6 +284,31 @@ risen_some k b bs r =
     let top : b ≤ 56 = leb-true b 56 (and_right (ltb 48 b) (leb b 56) r) in
     let named = risen_keeps k b (with 0 (value_of b)) (value_of b) bs (omega arith) (with_new 0 (value_of b) (omega arith) (omega arith)) in
     rw (ne_eqb (risen k b (with 0 (value_of b)) bs).0 0 (not_empty _ (value_of b) named))
+
+-- a view ends at most eight places on
+risen_high : (k last v : ℕ) (m : List ℕ) → last ≤ 56 → (risen k last v m).1 + last ≤ k + 56
+unfolding risen
+risen_high k last v [] h = omega arith
+risen_high k last v (b ∷ bs) h =
+    by_pick (λ (w : ℕ × ℕ). w.1 + last ≤ k + 56) (rises last b) _ _
+    (λ e.
+    let up : last < b = ltb-true last b (and_left (ltb last b) (leb b 56) e) in
+    let top : b ≤ 56 = leb-true b 56 (and_right (ltb last b) (leb b 56) e) in
+    omega (arith, risen_high (suc k) b (with v (value_of b)) bs top))
+    (λ e. omega arith)
+
+abbrev Near : ℕ → Result (ℕ × ℕ) BadFrom → Type 0
+Near k (Ok w) = w.1 ≤ k + 8
+Near k (Err bad) = Unit {0}
+
+near : (k : ℕ) (m : List ℕ) → Near k (view_from k m)
+unfolding view_from some_view
+near k m =
+    by_pick (Near k) (eqb (get_or m 0 0) 45) _ _ (λ e. omega arith)
+    (λ e. by_pick (Near k) (eqb (risen k 48 0 m).0 0) _ _ (λ none. tt) (λ named. omega (arith, risen_high k 48 0 m (omega arith))))
+
+pub view_near : (w : ℕ × ℕ) (k : ℕ) (m : List ℕ) → Ok w ≡ view_from k m → w.1 ≤ k + 8
+view_near w k m is = subst (Near k) (sym is) (near k m)
 
 next_rest : (l : List ℕ) (k b : ℕ) (bs : List ℕ) → drop k l ≡ b ∷ bs → drop (suc k) l ≡ bs
 next_rest l k b bs e = let d : drop 1 (drop k l) ≡ drop (suc k) l = rw (← add-one k) (drop-drop 1 k l) in sym d ∙ ap (drop 1) e

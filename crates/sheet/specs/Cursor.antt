@@ -9,7 +9,7 @@ use Rattle.plan.specs.declared.Cut.TheVariants.{Whole, After}
 use Rattle.print.specs.Text.{bytes}
 use Rattle.sheet.specs.declared.cursor.Cursor.{Cursor}
 use Rattle.sheet.specs.declared.parse.BadFrom.{BadFrom}
-use Rattle.sheet.specs.Grammar.{rises, value_of, bad_from}
+use Rattle.sheet.specs.Grammar.{rises, value_of, from_column}
 use Rattle.sheet.specs.Parse.{process}
 
 -- a call reads what stands at the cursor's place, and moves it on
@@ -29,7 +29,7 @@ Err bad >>= f = Err bad
 -- a byte from `low` to `high`
 unfoldable pub byte_at : ℕ → ℕ → List ℕ → ℕ → Result (ℕ × ℕ) BadFrom
 byte_at low high l at =
-    pick (ltb at (length l) && (leb low (get_or l at 0) && leb (get_or l at 0) high)) (Ok (get_or l at 0, at + 1)) (Err (bad_from (at + 1)))
+    pick (ltb at (length l) && (leb low (get_or l at 0) && leb (get_or l at 0) high)) (Ok (get_or l at 0, at + 1)) (Err (from_column (at + 1)))
 
 unfoldable pub text_at : List ℕ → List ℕ → ℕ → Result (Unit {0} × ℕ) BadFrom
 text_at [] l at = Ok (tt, at)
@@ -48,7 +48,7 @@ risen at last v (b ∷ bs) = pick (rises last b) (risen (suc at) b (with v (valu
 
 -- a view that is no empty one
 unfoldable pub some_view : ℕ × ℕ → Result (ℕ × ℕ) BadFrom
-some_view w = pick (eqb w.0 0) (Err (bad_from (w.1 + 1))) (Ok w)
+some_view w = pick (eqb w.0 0) (Err (from_column (w.1 + 1))) (Ok w)
 
 -- the view that begins at a place, from which these bytes are left
 unfoldable pub view_from : ℕ → List ℕ → Result (ℕ × ℕ) BadFrom
@@ -59,7 +59,7 @@ view_at l at = text_at (bytes " ") l at >>= λ s. view_from s.1 (drop s.1 l)
 
 -- the end of the line, before which ` cut K` may stand
 unfoldable pub end_at : List ℕ → ℕ → Result (Unit {0}) BadFrom
-end_at l at = pick (ltb at (length l)) (Err (bad_from (at + 1))) (Ok tt)
+end_at l at = pick (ltb at (length l)) (Err (from_column (at + 1))) (Ok tt)
 
 unfoldable pub cut_at : List ℕ → ℕ → Result Cut BadFrom
 cut_at l at =

@@ -9,7 +9,7 @@ use Rattle.sheet.specs.declared.parse.BadFrom.{BadFrom}
 use Rattle.sheet.specs.declared.parse.Line.{Line}
 use Rattle.sheet.specs.declared.parse.Line.TheVariants.{Step, Settle}
 use Rattle.sheet.specs.Lines.{lines_of}
-use Rattle.sheet.specs.Grammar.{bad_from}
+use Rattle.sheet.specs.Grammar.{from_column}
 use Rattle.sheet.specs.Parse.{process, opened, parsed}
 
 -- ---- lines
@@ -50,7 +50,7 @@ s says x = record { line = bytes s; says = x }
 
 -- bad from this column on
 abbrev bad : {A : Type 0} → ℕ → Result A BadFrom
-bad column = Err (bad_from column)
+bad column = Err (from_column column)
 
 abbrev pub first_sayings : List (Saying (Result ℕ BadFrom))
 first_sayings =

@@ -116,8 +116,8 @@ greatest (suc k) test = pick (test (suc k)) (suc k) (greatest k test)
 unfoldable pub column : {A : Type 0} → List (Form A) → List ℕ → ℕ
 column xs l = greatest (length l) (λ k. begins xs (take k l)) + 1
 
-abbrev pub bad_from : ℕ → BadFrom
-bad_from column = record { 0 = column }
+abbrev pub from_column : ℕ → BadFrom
+from_column column = record { 0 = column }
 
 unfoldable pub first_reading : {A : Type 0} → List A → BadFrom → Result A BadFrom
 first_reading [] bad = Err bad
@@ -125,4 +125,4 @@ first_reading (a ∷ rest) bad = Ok a
 
 -- what a line says that is allowed, and of any other that it is bad at its column
 unfoldable pub read : {A : Type 0} → List (Form A) → List ℕ → Result A BadFrom
-read xs l = first_reading (readings xs l) (bad_from (column xs l))
+read xs l = first_reading (readings xs l) (from_column (column xs l))

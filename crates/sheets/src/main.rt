@@ -4,8 +4,8 @@
 ghost use Rattle.std.specs.Prelude.{◌≡◌, ◌↔◌, IsTrue};
 ghost use Rattle.run.specs.Output.{output};
 
-use input::{ReadFailed, read_file, zeros};
-use run::{OUTPUT_ROOM, SHEET_ROOM, print_sheet};
+use input::{ReadFailed, read_file, sheet_buffer, zeros};
+use run::{OUTPUT_ROOM, print_sheet};
 use std::rt::Files;
 
 // A worked sheet: its name, its file and the file of what it prints.
@@ -57,7 +57,7 @@ fn prints(sheet: &[u8], expected: &[u8]) -> bool
 
 // Whether a worked sheet prints what stands in the file beside it.
 fn holds(files: &impl Files, worked: &Worked) -> Result<bool, ReadFailed> {
-    let mut sheet = zeros::<SHEET_ROOM>();
+    let mut sheet = sheet_buffer();
     let mut expected = zeros::<OUTPUT_ROOM>();
     let sheet_len = read_file(files, worked.sheet, &mut sheet)?;
     let expected_len = read_file(files, worked.output, &mut expected)?;

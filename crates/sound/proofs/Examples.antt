@@ -15,7 +15,7 @@ use Rattle.channel.specs.Channel.{empty_channel, waiting}
 use Rattle.std.specs.Prelude.{Some}
 use Rattle.system.specs.declared.Process.{Process}
 use Rattle.system.specs.declared.System.{System}
-use Rattle.system.specs.Process.{index, proposal_of, entry_at, with_entry, pending_at, with_pending, with_variables, with_history}
+use Rattle.system.specs.Process.{index, proposal_at, entry_at, with_entry, pending_at, with_pending, with_variables, with_history}
 use Rattle.system.specs.System.{no_process, process_at, with_process, channel_number, channel_at, with_channel}
 use Rattle.system.specs.Fresh.{fresh_variables, fresh_process, fresh_system}
 use Rattle.sound.specs.Sound.{every, sound_proposal, sound_message, sound_pending, sound_channel, sound_history, sound_variables, sound_process, sound_process_at, sound_channel_at, sound_channels_from, sound_processes, sound_channels, sound_system}
@@ -60,7 +60,7 @@ holding i v x = with_history x (with_entry x.history i v)
 
 -- process 2 has recorded a proposal from process 1
 abbrev pub recorded : ℕ → ℕ → System
-recorded v i = altered 2 (λ x. with_pending x 1 (Some (proposal_of v (index i))))
+recorded v i = altered 2 (λ x. with_pending x 1 (Some (proposal_at v (index i))))
 
 -- a channel whose eight slots hold the same message, of which k wait
 abbrev pub filled : Message → ℕ → Channel
@@ -165,7 +165,7 @@ examples =
     ∷ unsound (sending 1 (Retry (index 2) (index 34)))
     -- what lies past n is no part of the table: a process, a record from it, a channel to it and one from it
     ∷ sound (altered 3 (of_next 0))
-    ∷ sound (altered 1 (λ x. with_pending x 3 (Some (proposal_of 255 (index 0)))))
+    ∷ sound (altered 1 (λ x. with_pending x 3 (Some (proposal_at 255 (index 0)))))
     ∷ sound (with_channel two 1 3 (filled (Acc (index 0)) 9))
     ∷ sound (with_channel two 3 1 (filled (Acc (index 0)) 9))
     -- what lies past a channel's length is not either

@@ -15,7 +15,7 @@ use Rattle.channel.specs.Channel.{waiting}
 use Rattle.system.specs.declared.Variables.{Variables}
 use Rattle.system.specs.declared.Process.{Process}
 use Rattle.system.specs.declared.System.{System}
-use Rattle.system.specs.Process.{index, with_entry, pending_at, proposal_of}
+use Rattle.system.specs.Process.{index, with_entry, pending_at, proposal_at}
 use Rattle.system.specs.System.{process_at, variables_at, channel_at, may_trust}
 use Rattle.plan.specs.declared.Change.{Change}
 use Rattle.plan.specs.declared.Action.{Action}
@@ -142,7 +142,7 @@ pub record Records (s t : System) (q p : ProcessId) : Type 0 where
   pub taken : Taken s q.0 p.0 (Propose view index) left
   pub sound : SoundProposal s.n q.0 p.0 view index.0
   pub trust : SameTrust s t
-  pub effect : Effect s t left p.0 (recording (variables_at s p.0) q (Some (proposal_of view index))) false 0 no_message
+  pub effect : Effect s t left p.0 (recording (variables_at s p.0) q (Some (proposal_at view index))) false 0 no_message
 
 -- R_q?Retry, and PropOut = old ∧ p = min(v_p)
 pub record Reproposes (s t : System) (q p : ProcessId) : Type 0 where
@@ -229,7 +229,7 @@ pub record Accepts (s t : System) (p q : ProcessId) : Type 0 where
   pub partner : Known s q.0
   pub view : ℕ
   pub index : GroupIndex
-  pub recorded : pending_at (process_at s p.0) q.0 ≡ Some (proposal_of view index)
+  pub recorded : pending_at (process_at s p.0) q.0 ≡ Some (proposal_at view index)
   pub sound : SoundProposal s.n q.0 p.0 view index.0
   pub same : view ≡ (variables_at s p.0).view
   pub free : (variables_at s p.0).next.0 ≤ index.0
@@ -243,7 +243,7 @@ pub record Declines (s t : System) (p q : ProcessId) : Type 0 where
   pub partner : Known s q.0
   pub view : ℕ
   pub index : GroupIndex
-  pub recorded : pending_at (process_at s p.0) q.0 ≡ Some (proposal_of view index)
+  pub recorded : pending_at (process_at s p.0) q.0 ≡ Some (proposal_at view index)
   pub sound : SoundProposal s.n q.0 p.0 view index.0
   pub same : view ≡ (variables_at s p.0).view
   pub late : index.0 < (variables_at s p.0).next.0

@@ -20,7 +20,7 @@ use Rattle.channel.specs.Channel.{popped, front_of}
 use Rattle.system.specs.declared.System.{System}
 use Rattle.system.specs.declared.Variables.{Variables}
 use Rattle.system.specs.Outcome.{Outcome, done, refused}
-use Rattle.system.specs.Process.{index, pending_at, Pending, proposal_of}
+use Rattle.system.specs.Process.{index, pending_at, Pending, proposal_at}
 use Rattle.system.specs.System.{process_at, variables_at, channel_at, with_channel, trust_at, may_trust}
 use Rattle.sound.specs.Sound.{sound_message, sound_pending, sound_system}
 use Rattle.plan.specs.declared.Action.{Action}
@@ -77,7 +77,7 @@ module _ (s : System) (valid : Valid s) (t : System) (reach : ℕ) where
   report_cases p v = grind (arith, nat_tests, proposing_tells, brought_back, report-doubts, following_tells)
 
   -- what process p has recorded from process q is sound
-  recorded_proposal : (p q : ProcessId) (v : ℕ) (i : GroupIndex) → pending_at (process_at s p.0) q.0 ≡ Some (proposal_of v i) → Known s p.0 → Known s q.0
+  recorded_proposal : (p q : ProcessId) (v : ℕ) (i : GroupIndex) → pending_at (process_at s p.0) q.0 ≡ Some (proposal_at v i) → Known s p.0 → Known s q.0
       → SoundProposal s.n q.0 p.0 v i.0
   unfolding sound_pending
   recorded_proposal p q v i e a b =
@@ -86,7 +86,7 @@ module _ (s : System) (valid : Valid s) (t : System) (reach : ℕ) where
 
   -- an answer, and what it tells
   module _ {p q : ProcessId} {v : ℕ} {i : GroupIndex} (acts : Acts s p.0) (partner : Known s q.0)
-      (recorded : pending_at (process_at s p.0) q.0 ≡ Some (proposal_of v i)) (same : v ≡ (variables_at s p.0).view) (trust : SameTrust s t) where
+      (recorded : pending_at (process_at s p.0) q.0 ≡ Some (proposal_at v i)) (same : v ≡ (variables_at s p.0).view) (trust : SameTrust s t) where
     sound_there : SoundProposal s.n q.0 p.0 v i.0
     sound_there = recorded_proposal p q v i recorded acts.known partner
 

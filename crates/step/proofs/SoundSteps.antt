@@ -19,7 +19,7 @@ use Rattle.system.specs.declared.Variables.{Variables}
 use Rattle.system.specs.declared.Process.{Process}
 use Rattle.system.specs.declared.System.{System}
 use Rattle.system.specs.Outcome.{Outcome}
-use Rattle.system.specs.Process.{index, Pending, proposal_of}
+use Rattle.system.specs.Process.{index, Pending, proposal_at}
 use Rattle.system.specs.System.{process_at, variables_at, channel_at}
 use Rattle.system.proofs.Histories.{entry_other, each_entry}
 use Rattle.sound.specs.Sound.{sound_message, sound_pending}
@@ -192,7 +192,7 @@ retry_sound : (n q p : ℕ) (old new : GroupIndex) → 2 ≤ old.0 → old.0 ≤
 unfolding sound_message
 retry_sound n q p old new a b c d = grind arith
 
-pending_sound : (n q p v : ℕ) (i : GroupIndex) → SoundProposal n q p v i.0 → sound_pending n q p (Some (proposal_of v i)) ≡ true
+pending_sound : (n q p v : ℕ) (i : GroupIndex) → SoundProposal n q p v i.0 → sound_pending n q p (Some (proposal_at v i)) ≡ true
 unfolding sound_pending
 pending_sound n q p v i f = proposal_sound n q p v i.0 f
 
@@ -222,7 +222,7 @@ module _ (s t : System) (valid : Valid s) where
       (assigning_sound _ _ _ (view_sound _ _ _ (now p.0 r.acts) v r.inside r.own))
   transition_sound (Receive q p) (records r) =
       quiet_sound valid r.acts (taken_left r.taken) r.effect refl
-      (recording_sound _ _ _ (now p.0 r.acts) q (Some (proposal_of r.view r.index)) (pending_sound _ _ _ r.view r.index r.sound))
+      (recording_sound _ _ _ (now p.0 r.acts) q (Some (proposal_at r.view r.index)) (pending_sound _ _ _ r.view r.index r.sound))
   transition_sound (Receive q p) (reproposes r) =
       let f = now p.0 r.acts in
       effect_sound valid r.acts (taken_left r.taken) r.effect refl

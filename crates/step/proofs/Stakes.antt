@@ -16,7 +16,7 @@ use Rattle.channel.specs.declared.Message.{Message}
 use Rattle.channel.specs.declared.Message.TheVariants.{Propose, Retry, Acc, Commit}
 use Rattle.system.specs.declared.Process.{Process}
 use Rattle.system.specs.declared.System.{System}
-use Rattle.system.specs.Process.{pending_at, Pending, proposal_of}
+use Rattle.system.specs.Process.{pending_at, Pending, proposal_at}
 use Rattle.system.specs.System.{process_at, variables_at}
 use Rattle.system.specs.Fresh.{fresh_variables, fresh_system}
 use Rattle.plan.specs.declared.Change.{Change}
@@ -103,7 +103,7 @@ module _ {s t : System} {left : ℕ → ℕ → List Message} {p : ℕ} {c : Cha
 
   -- a record that is cleared
   pub held_cleared : (q v : ℕ) (i : GroupIndex) → c.proposer.0 ≡ q → c.pending ≡ None → 1 ≤ q → q ≤ length (process_at s p).pending
-      → pending_at (process_at s p) q ≡ Some (proposal_of v i)
+      → pending_at (process_at s p) q ≡ Some (proposal_at v i)
       → (a b : ℕ)
       → held t a b + is a q * is b p ≤ held s a b
   unfolding held recorded

@@ -21,7 +21,7 @@ use Rattle.step.specs.Step.{taken_off}
 use Rattle.step.proofs.Frames.{channel_apart}
 
 -- ---- the oldest message comes off the channel from q to p, whatever their numbers
-popped_at : (l : List Channel) (k : ℕ) → at (put l k (popped (at l k empty_channel))) k empty_channel ≡ popped (at l k empty_channel)
+pub popped_at : (l : List Channel) (k : ℕ) → at (put l k (popped (at l k empty_channel))) k empty_channel ≡ popped (at l k empty_channel)
 unfolding at put
 popped_at l zero = sym empty-popped
 popped_at l (suc k) =

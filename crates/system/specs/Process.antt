@@ -45,8 +45,8 @@ no_variables = record { crashed = false; view = 0; next = index 0; propout = ind
 abbrev pub Pending : Type 0
 Pending = Option Proposal
 
-abbrev pub proposal_of : ℕ → GroupIndex → Proposal
-proposal_of v i = record { view = v; index = i }
+abbrev pub proposal_at : ℕ → GroupIndex → Proposal
+proposal_at v i = record { view = v; index = i }
 
 -- the proposal recorded from process q
 unfoldable pub pending_at : Process → ℕ → Pending

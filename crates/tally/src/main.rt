@@ -9,8 +9,7 @@ ghost use Rattle.class.specs.Reading.{names_left};
 
 use class::names::{NAME_ROOM, Names};
 use class::{LINE_LIMIT, NAME_LIMIT, print_all, print_name};
-use input::{Failure, ReadFailed, Source, read_file, zeros};
-use run::SHEET_ROOM;
+use input::{Failure, ReadFailed, Source, read_file, sheet_buffer, zeros};
 use std::rt::Files;
 use tallies::Tally;
 
@@ -29,7 +28,7 @@ fn read_sheet(files: &impl Files, name: &[u8], buf: &mut [u8]) -> Result<usize, 
 
 // Reads the sheet of a name and writes its line: the class's tally after it.
 fn tally_name(rt: &(impl Files + Print), total: Tally, name: &[u8]) -> Result<Tally, Failure> {
-    let mut room = zeros::<SHEET_ROOM>();
+    let mut room = sheet_buffer();
     let sheet = match read_sheet(rt, name, &mut room) {
         Ok(len) => Some(&room[..len]),
         Err(_) => None,

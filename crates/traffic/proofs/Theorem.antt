@@ -37,7 +37,7 @@ all_balanced s shape es =
 
 -- ---- at the start
 -- nothing waits
-fresh_none : (n : ℕ) → waiting_in (fresh_system n) ≡ 0
+pub fresh_none : (n : ℕ) → waiting_in (fresh_system n) ≡ 0
 unfolding fresh_system sum_up_to empty_channel
 fresh_none n =
     omega (

@@ -4,8 +4,8 @@ use Rattle.class.proofs.print_name.Goals as goal
 
 pub returns-clause-line : goal.returns-clause-line
 unfolding lined lined_as
-returns-clause-line c = rw (← c.find-finding.ensures) c.print_line.ensures
+returns-clause-line c = rw (← c.find-finding.ensures) c.print_line-end.ensures
 
 pub returns-clause-total : goal.returns-clause-total
 unfolding lined lined_as
-returns-clause-total c = rw (← c.find-finding.ensures, ← c.adds.ensures) c.add.ensures
+returns-clause-total c = rw (← c.find-finding.ensures, ← c.adds.ensures) c.add_assign.ensures.after

@@ -3,7 +3,7 @@ use mathlib.Core.Path.{sym, ◌∙◌, ap}
 use native.Mathlib.Omega.{arith}
 use Rattle.orders.specs.Orders.{run_counts_of}
 use Rattle.orders.proofs.Moves.{few_views, few_link_moves, few_process_moves}
-use Rattle.orders.proofs.Laws.{no_move, move_refused, move_done, turns_few, seven, sum_fits, last_link, last_process, link_whole, process-whole, shallower}
+use Rattle.orders.proofs.Laws.{no_move, move_refused, move_done, turns_few, seven, sum_fits, whole_sum, last_link, last_process, link_whole, process-whole, shallower}
 use Rattle.orders.proofs.+link_turn_process_turn.Goals as goal
 use Rattle.orders.proofs.+link_turn_process_turn.Goals.{link_turn-then-try_move, link_turn-else-try_move, process_turn-then-try_move, process_turn-else-try_move}
 
@@ -30,19 +30,18 @@ pub link_turn-process_turn-requires : goal.link_turn-process_turn-requires
 link_turn-process_turn-requires t c =
     (omega (arith, c.decreases), shallower _ _ _ _ c.requires (c.try_move.auto.copied ∙ c.loop-k.invariant.0) c.try_move.ensures.stays)
 
-pub link_turn-add-total-requires : goal.link_turn-add-total-requires
-link_turn-add-total-requires t c =
-    sum_fits _ _ _ _ _
-    (λ s. seven _ _ (omega (arith, c.requires.shallow)) ((turns_few _ _ c.requires.few).1 s))
-    (omega (arith, c.loop-k-test.true, few_link_moves _ _ c.requires.few c.moves_at-each.ensures))
-    _ _ c.loop-k.invariant.1 _ c.process_turn.ensures
-
 pub link_turn-loop-k-preserved : goal.link_turn-loop-k-preserved
 link_turn-loop-k-preserved t c =
-    let i = c.loop-k.invariant in (
+    let i = c.loop-k.invariant in
+    let few = turns_few _ _ c.requires.few in
+    let depth = c.requires.shallow in
+    let place = few_link_moves _ _ c.requires.few c.moves_at-each.ensures in
+    let turn = c.loop-k-test.true in (
       c.try_move.auto.copied ∙ i.0,
       elim c.if-try_move.branch [
-        | link_turn-then-try_move w ↦ w.total-is ∙ w.add-total.ensures ∙ move_done _ _ _ _ _ _ _ _ c.try_move.ensures c.link_move.ensures _ i.1 w.if-try_move.true _ w.process_turn.ensures
+        | link_turn-then-try_move w ↦ w.total-is
+            ∙ w.add-total.ensures ∙ whole_sum _ _ (sum_fits _ _ _ _ _ (λ s. seven _ _ (omega (arith, depth)) (few.1 s)) (omega (arith, turn, place)) _ _ i.1 _ w.process_turn.ensures)
+            ∙ move_done _ _ _ _ _ _ _ _ c.try_move.ensures c.link_move.ensures _ i.1 w.if-try_move.true _ w.process_turn.ensures
         | link_turn-else-try_move w ↦ w.total-is ∙ move_refused _ _ _ _ _ _ _ _ c.try_move.ensures c.link_move.ensures _ i.1 w.if-try_move.false
       ],
     )
@@ -70,19 +69,18 @@ pub process_turn-link_turn-requires : goal.process_turn-link_turn-requires
 process_turn-link_turn-requires t c =
     (omega (arith, c.decreases), shallower _ _ _ _ c.requires (c.try_move.auto.copied ∙ c.loop-k.invariant.0) c.try_move.ensures.stays)
 
-pub process_turn-add-total-requires : goal.process_turn-add-total-requires
-process_turn-add-total-requires t c =
-    sum_fits _ _ _ _ _
-    (λ s. seven _ _ (omega (arith, c.requires.shallow)) ((turns_few _ _ c.requires.few).0 s))
-    (omega (arith, c.loop-k-test.true, few_process_moves c.args.n c.requires.few))
-    _ _ c.loop-k.invariant.1 _ c.link_turn.ensures
-
 pub process_turn-loop-k-preserved : goal.process_turn-loop-k-preserved
 process_turn-loop-k-preserved t c =
-    let i = c.loop-k.invariant in (
+    let i = c.loop-k.invariant in
+    let few = turns_few _ _ c.requires.few in
+    let depth = c.requires.shallow in
+    let place = few_process_moves c.args.n c.requires.few in
+    let turn = c.loop-k-test.true in (
       c.try_move.auto.copied ∙ i.0,
       elim c.if-try_move.branch [
-        | process_turn-then-try_move w ↦ w.total-is ∙ w.add-total.ensures ∙ move_done _ _ _ _ _ _ _ _ c.try_move.ensures c.process_move.ensures _ i.1 w.if-try_move.true _ w.link_turn.ensures
+        | process_turn-then-try_move w ↦ w.total-is
+            ∙ w.add-total.ensures ∙ whole_sum _ _ (sum_fits _ _ _ _ _ (λ s. seven _ _ (omega (arith, depth)) (few.0 s)) (omega (arith, turn, place)) _ _ i.1 _ w.link_turn.ensures)
+            ∙ move_done _ _ _ _ _ _ _ _ c.try_move.ensures c.process_move.ensures _ i.1 w.if-try_move.true _ w.link_turn.ensures
         | process_turn-else-try_move w ↦ w.total-is ∙ move_refused _ _ _ _ _ _ _ _ c.try_move.ensures c.process_move.ensures _ i.1 w.if-try_move.false
       ],
     )

@@ -3,4 +3,4 @@ use Rattle.class.proofs.Reading.{all_left}
 use Rattle.class.proofs.names.Names.new.Goals as goal
 
 pub returns : goal.returns
-returns g c = all_left c.zeros.result _
+returns g c = all_left c.large_buffer.result _

@@ -3,13 +3,13 @@ use Rattle.std.proofs.Common.{rules, ap}
 use Rattle.tallies.specs.Tally.{no_tally}
 use Rattle.settling.specs.Settle.{Settled}
 use Rattle.settle.specs.Settles.{tally_in}
-use Rattle.settle.specs.Settles.{settled_as as answer_of}
+use Rattle.settle.specs.Settles.{settled_told}
 use Rattle.print.proofs.Typing.{typed_in_turn}
 use Rattle.run.specs.Output.{settled_as, line_done}
 use Rattle.run.proofs.lines.Machine.settle.Goals as goal
 
 pub returns-in-Ok : goal.returns-in-Ok
-unfolding line_done settled_as answer_of tally_in
+unfolding line_done settled_as settled_told tally_in
 returns-in-Ok c =
     let answer = rw c.in-Ok.is at c.settle.ensures.outcome in
     record {
@@ -19,7 +19,7 @@ returns-in-Ok c =
     }
 
 pub returns-in-Err : goal.returns-in-Err
-unfolding line_done settled_as answer_of tally_in no_tally
+unfolding line_done settled_as settled_told tally_in no_tally
 returns-in-Err c =
     let answer = rw c.in-Err.is at c.settle.ensures.outcome in
     record {
