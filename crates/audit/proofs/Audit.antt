@@ -38,7 +38,7 @@ use Rattle.sheet.specs.Parse.{opened, parsed}
 use Rattle.sheet.proofs.Laws.{weight, few_bytes, few_lines}
 use Rattle.sheet.proofs.GoodLines.{fresh_size}
 use Rattle.run.specs.Output.{answered, settled_as, line_done, tallied_then, tallied_from, tallied_by, lines_tally, sheet_tally, sheet_limit}
-use Rattle.class.specs.Class.{Finding, Named, counted, finding_of, adds_of, in_all, name_limit}
+use Rattle.class.specs.Class.{Finding, Named, sheet_finding, finding_of, adds_of, in_all, name_limit}
 use Rattle.audit.specs.Audit.{line_events, sheet_events, Accounted, SheetAccounted, Even, SheetEven, ClassEven, NotOverOne, SheetShare, ClassShare, NoOverflow}
 
 -- ---- what moves count, one after the other
@@ -167,10 +167,10 @@ every_sheet P none some sheet =
 
 -- ---- a class: what a name adds
 every_name : (P : Tally → Type 0) → P no_tally → ((sheet : List ℕ) → P (sheet_tally sheet)) → (x : Named) → P (adds_of (finding_of x))
-unfolding finding_of counted adds_of
+unfolding finding_of sheet_finding adds_of
 every_name P none some x = by_pick (λ (f : Finding). P (adds_of f)) (ltb name_limit (length x.name)) _ _ (λ e. none) (λ e. of_sheet x.sheet)
   where
-    of_sheet : (sheet : Option (List ℕ)) → P (adds_of (counted sheet))
+    of_sheet : (sheet : Option (List ℕ)) → P (adds_of (sheet_finding sheet))
     of_sheet None = none
     of_sheet (Some sheet) = by_pick (λ (f : Finding). P (adds_of f)) (ltb sheet_limit (length sheet)) _ _ (λ l. none) (λ l. some sheet)
 

@@ -32,8 +32,8 @@ use Rattle.run.specs.Output.{answered, bad_line, ending_text, settled_as, line_d
 use Rattle.cases.specs.Systems.{two, with_values, with_trust_of, with_stop, with_record, with_written, loaded, with_messages, lone}
 use Rattle.cases.specs.Worked.{text_of, step_in, steps_in, steps_of, printed_by, opened_with, start_of, ran_on, queue_in, result_of, expected_result}
 use Rattle.cases.specs.Sheets.{k_sheets, k1, k1_ends, k2, k3, k4, k4_full, k5_stays, k5, k6, k7, k8, k8_nine, k9, form_sheets, settle_two, no_last_lf, later_u, empty_lines, first_u9, one_lf, empty}
-use Rattle.cases.specs.Points.{points, line_outcome, outcome_of, expected_outcome}
-use Rattle.cases.specs.Settles.{settlings, settled_of, expected_settled, proposed_to_two, written_at_two, written_at_both, recorded_by_one, crosswise}
+use Rattle.cases.specs.Points.{points, line_outcome, point_outcome, expected_outcome}
+use Rattle.cases.specs.Settles.{settlings, point_settled, expected_settled, proposed_to_two, written_at_two, written_at_both, recorded_by_one, crosswise}
 use Rattle.cases.specs.Cuts.{proposed_by1, told, proposed_both, last_acc, full_retry, last_index, answering, cuts, cut_stop, accepted_by_cut, accepted_is_cut}
 use Rattle.cases.specs.Doubts.{viewing, last_alone, doubts}
 use Rattle.cases.specs.Rule.{k9_accepted, k9_agreements, k9_book, at_two, at_four, twice_accepted, shared, trials, admitted_by, expected_answer}
@@ -60,8 +60,8 @@ unfolding pick all_up_to each_up_to at put has within with minus switched everyo
     with_values with_trust_of with_stop with_record with_written loaded with_messages lone
     text_of step_in steps_in steps_of printed_by opened_with start_of ran_on queue_in result_of expected_result
     k1 k1_ends k2 k3 k4 k4_full k5_stays k5 k6 k7 k8 k8_nine k9 settle_two no_last_lf later_u empty_lines first_u9 one_lf empty
-    line_outcome outcome_of proposed_by1 told proposed_both last_acc full_retry last_index answering cut_stop accepted_by_cut accepted_is_cut
-    settled_of proposed_to_two written_at_two written_at_both recorded_by_one crosswise
+    line_outcome point_outcome proposed_by1 told proposed_both last_acc full_retry last_index answering cut_stop accepted_by_cut accepted_is_cut
+    point_settled proposed_to_two written_at_two written_at_both recorded_by_one crosswise
     viewing last_alone k9_accepted k9_agreements k9_book at_two at_four twice_accepted shared trials admitted_by
 definitions = tt
 
@@ -75,12 +75,12 @@ pub worked_forms : map result_of form_sheets ≡ map expected_result form_sheets
 unfolding definitions
 worked_forms = refl
 
-pub worked_points : map outcome_of points ≡ map expected_outcome points
+pub worked_points : map point_outcome points ≡ map expected_outcome points
 unfolding definitions
 worked_points = refl
 
 -- Cut steps; a stop, which is never cut; and an answer, which accepts although it is.
-pub worked_cuts : map outcome_of cuts ≡ map expected_outcome cuts
+pub worked_cuts : map point_outcome cuts ≡ map expected_outcome cuts
 unfolding definitions
 worked_cuts = refl
 
@@ -93,12 +93,12 @@ unfolding definitions
 cut_answer_accepts = refl
 
 -- Reports that begin suspicions, end them, or are refused with 13.
-pub worked_doubts : map outcome_of doubts ≡ map expected_outcome doubts
+pub worked_doubts : map point_outcome doubts ≡ map expected_outcome doubts
 unfolding definitions
 worked_doubts = refl
 
 -- Settling runs.
-pub worked_settlings : map settled_of settlings ≡ map expected_settled settlings
+pub worked_settlings : map point_settled settlings ≡ map expected_settled settlings
 unfolding definitions
 worked_settlings = refl
 

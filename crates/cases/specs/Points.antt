@@ -35,8 +35,8 @@ line_outcome s (Ok (Step o)) = stepped s o
 line_outcome s (Ok Settle) = record { refusal = (settled settling_budget s).refusal; system = (settled settling_budget s).system }
 
 -- by the definitions
-unfoldable pub outcome_of : Point → Outcome
-outcome_of x = line_outcome x.before (parsed (bytes x.line))
+unfoldable pub point_outcome : Point → Outcome
+point_outcome x = line_outcome x.before (parsed (bytes x.line))
 
 -- by the point
 abbrev pub expected_outcome : Point → Outcome

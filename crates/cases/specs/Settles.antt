@@ -22,8 +22,8 @@ abbrev stays : System → ℕ → Ending → SettlingPoint
 stays s budget ending = comes s budget 0 ending s
 
 -- by the definitions, and by the point
-unfoldable pub settled_of : SettlingPoint → Settled
-settled_of x = settled x.budget x.before
+unfoldable pub point_settled : SettlingPoint → Settled
+point_settled x = settled x.budget x.before
 
 abbrev pub expected_settled : SettlingPoint → Settled
 expected_settled x = x.after

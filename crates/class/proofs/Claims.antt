@@ -21,7 +21,7 @@ use Rattle.sheet.specs.Grammar.{piece, passed, ended, followed, readings, some, 
 use Rattle.sheet.specs.Parse.{opened, parsed}
 use Rattle.run.specs.Output.{answered, line_done, tallied_then, tallied_from, tallied_by, lines_tally, sheet_tally}
 use Rattle.class.specs.Names.{names_in, first_names}
-use Rattle.class.specs.Class.{share_text, counts_text, finding_text, name_line, counted, finding_of, adds_of, all_line, each_line, in_all, class_output}
+use Rattle.class.specs.Class.{share_text, counts_text, finding_text, name_line, sheet_finding, finding_of, adds_of, all_line, each_line, in_all, class_output}
 use Rattle.print.specs.Examples.{printed_text, expected_text}
 use Rattle.class.specs.Examples.{k1_named, named_stop, cut_named, unread_named, bad_first_named, named_empty, long_named, class_printings}
 
@@ -45,7 +45,7 @@ unfolding pick all_up_to each_up_to sum_up_to at put
     piece passed ended followed readings some begins greatest column first_reading read
     opened parsed
     answered line_done tallied_then tallied_from tallied_by lines_tally sheet_tally
-    share_text counts_text finding_text name_line counted finding_of adds_of all_line each_line in_all class_output
+    share_text counts_text finding_text name_line sheet_finding finding_of adds_of all_line each_line in_all class_output
     expected_text k1_named named_stop cut_named unread_named bad_first_named named_empty long_named
     flat_map
 class_as_expected = refl

@@ -15,7 +15,7 @@ use Rattle.std.proofs.lemmas.Bool.{eqb-true}
 use Rattle.view.specs.Logic.{pick}
 use Rattle.sheet.specs.Lines.{lines_of, line_length, next_place, line_between, line_at, span}
 use Rattle.sheet.proofs.Laws.{line_found}
-use Rattle.class.specs.Names.{first_line, after_line, kept_name, first_names, names_in, Gives, TakesName}
+use Rattle.class.specs.Names.{first_line, after_line, kept_name, first_names, names_in, GivesName, TakesName}
 
 -- ---- the first line, and the lines after it
 pub line_first : (s : List ℕ) → 0 < length s → lines_of s ≡ first_line s ∷ lines_of (after_line s)
@@ -75,7 +75,7 @@ unfolding pick
 all_left bytes None = refl
 all_left bytes (Some s) = refl
 
-pub no_more : (n : ℕ) (a : Option (List ℕ)) → n ≡ 0 → Gives (option_map (first_names n) a) (option_map (first_names n) a) None
+pub no_more : (n : ℕ) (a : Option (List ℕ)) → n ≡ 0 → GivesName (option_map (first_names n) a) (option_map (first_names n) a) None
 unfolding first_names
 no_more n None e = (tt, tt)
 no_more n (Some s) e = rw e (refl, refl)
@@ -84,7 +84,7 @@ no_names : (n : ℕ) (s : List ℕ) → s ≡ [] → first_names n s ≡ []
 unfolding first_names lines_of
 no_names n s e = rw (e, take-nil n) refl
 
-pub none_follows : (n m : ℕ) (a b : Option (List ℕ)) → m ≡ n → Keeps a b → IsAtEnd b → Gives (option_map (first_names n) a) (option_map (first_names m) b) None
+pub none_follows : (n m : ℕ) (a b : Option (List ℕ)) → m ≡ n → Keeps a b → IsAtEnd b → GivesName (option_map (first_names n) a) (option_map (first_names m) b) None
 none_follows n m None None l k e = (tt, tt)
 none_follows n m None (Some r) l k e = (tt, no_names m r e)
 none_follows n m (Some s) None l k e = absurd k
@@ -97,7 +97,7 @@ name_first zero s h l = absurd (omega arith)
 name_first (suc n) s h l = rw (line_first s l, sub-one) refl
 
 pub name_follows : (n m : ℕ) (a b c : Option (List ℕ)) (name : List ℕ) → 0 < n → m ≡ n - 1 → Keeps a b → IfSome b (λ s. 0 < length s) → TakesName b c name
-    → Gives (option_map (first_names n) a) (option_map (first_names m) c) (Some name)
+    → GivesName (option_map (first_names n) a) (option_map (first_names m) c) (Some name)
 name_follows n m None b c name h l k w t = tt
 name_follows n m (Some s) None c name h l k w t = absurd k
 name_follows n m (Some s) (Some r) None name h l k w t = absurd t

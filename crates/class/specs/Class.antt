@@ -59,21 +59,21 @@ pub record Named : Type 0 where
   pub name : List ℕ
   pub sheet : Option (List ℕ)
 
-abbrev pub bytes_read : Option (Bor (List ℕ)) → Option (List ℕ)
-bytes_read None = None
-bytes_read (Some s) = Some s.now
+abbrev pub sheet_bytes : Option (Bor (List ℕ)) → Option (List ℕ)
+sheet_bytes None = None
+sheet_bytes (Some s) = Some s.now
 
 abbrev pub named : List ℕ → Option (Bor (List ℕ)) → Named
-named name sheet = record { name = name; sheet = bytes_read sheet }
+named name sheet = record { name = name; sheet = sheet_bytes sheet }
 
 -- a sheet of more than 60,000 bytes is a long one
-unfoldable pub counted : Option (List ℕ) → Finding
-counted None = Err Unopened
-counted (Some sheet) = pick (ltb sheet_limit (length sheet)) (Err TooLong) (Ok (sheet_tally sheet))
+unfoldable pub sheet_finding : Option (List ℕ) → Finding
+sheet_finding None = Err Unopened
+sheet_finding (Some sheet) = pick (ltb sheet_limit (length sheet)) (Err TooLong) (Ok (sheet_tally sheet))
 
 -- "a name over 255 bytes is unopened"
 unfoldable pub finding_of : Named → Finding
-finding_of x = pick (ltb name_limit (length x.name)) (Err Unopened) (counted x.sheet)
+finding_of x = pick (ltb name_limit (length x.name)) (Err Unopened) (sheet_finding x.sheet)
 
 -- "adds nothing"
 unfoldable pub adds_of : Finding → Tally

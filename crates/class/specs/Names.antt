@@ -36,11 +36,11 @@ NoneLeft None = ⊤
 NoneLeft (Some names) = names ≡ []
 
 -- where it is known which names are left, what is given is the first of them, or there is none
-abbrev pub Gives : Option (List (List ℕ)) → Option (List (List ℕ)) → Option (List ℕ) → Type 0
-Gives old new None = NoneLeft old × NoneLeft new
-Gives None new (Some name) = ⊤
-Gives (Some names) None (Some name) = ⊥
-Gives (Some names) (Some rest) (Some name) = names ≡ name ∷ rest
+abbrev pub GivesName : Option (List (List ℕ)) → Option (List (List ℕ)) → Option (List ℕ) → Type 0
+GivesName old new None = NoneLeft old × NoneLeft new
+GivesName None new (Some name) = ⊤
+GivesName (Some names) None (Some name) = ⊥
+GivesName (Some names) (Some rest) (Some name) = names ≡ name ∷ rest
 
 -- where it is known which bytes are left, what is taken is their first line, and the others stay
 abbrev pub TakesName : Option (List ℕ) → Option (List ℕ) → List ℕ → Type 0

@@ -105,7 +105,7 @@ fn sheet_tally(sheet: &[u8]) -> Tally
 }
 
 // What came of a name, and of its sheet, where that was opened and read.
-#[tactic(auto, unfolding(view::specs::Logic::pick, crate::specs::Class::counted, crate::specs::Class::finding_of))]
+#[tactic(auto, unfolding(view::specs::Logic::pick, crate::specs::Class::sheet_finding, crate::specs::Class::finding_of))]
 pub fn find(name: &[u8], sheet: Option<&[u8]>) -> Result<Tally, Uncounted>
     ensures { result ≡ finding_of (named name.now sheet.entry) }
 {

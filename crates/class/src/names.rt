@@ -5,7 +5,7 @@
 ghost use Rattle.std.specs.Prelude.{◌≡◌, ◌<◌, ◌≤◌, false, true, length, take, IfOk, IfErr, IfSome, OnOk, OnErr};
 ghost use Rattle.std.specs.Io.KnownBytes.{IsAtEnd, Keeps};
 ghost use Rattle.std.specs.Option.{option_map};
-ghost use Rattle.class.specs.Names.{Gathers, TakesName, Gives, names_in};
+ghost use Rattle.class.specs.Names.{Gathers, TakesName, GivesName, names_in};
 ghost use Rattle.class.specs.Reading.{bytes_left, names_left};
 
 use crate::NAME_LIMIT;
@@ -118,7 +118,7 @@ impl<R: Source> Names<R> {
     // of it, which stand first in the buffer.
     pub fn next_name(&mut self, name: &mut [u8; NAME_ROOM]) -> Result<Option<usize>, Failure>
         ensures within { IfOk result (λ found. IfSome found (λ len. len ≤ length name.new)) }
-        ensures name { IfOk result (λ found. Gives (names_left R.remaining self.old) (names_left R.remaining self.new)
+        ensures name { IfOk result (λ found. GivesName (names_left R.remaining self.old) (names_left R.remaining self.new)
             (option_map (λ len. take len name.new) found)) }
         ensures fewer { IfOk result (λ found. IfSome found (λ _. self.new.left < self.old.left)) }
     {

@@ -96,7 +96,9 @@ fn process_bytes(p: Process) -> [u8; PROCESS]
     bytes
 }
 
-// The image of a system; bytes of another length stay as they are.
+// The image of a system; bytes of another length stay as they are. Never inlined: with it in a caller's loop clang does not end
+// (program `by_value`).
+#[inline(never)]
 pub fn encode(s: System, image: &mut [u8])
     ensures { image.new ≡ pick (eqb (length image.old) image_width) (encoded s) image.old }
 {

@@ -10,7 +10,7 @@ use Rattle.system.specs.declared.System.{System}
 use Rattle.system.specs.Process.{no_variables, Pending, entry_at, with_entry, pending_at, with_variables, with_pending, with_history}
 use Rattle.system.specs.System.{no_process, process_at, variables_at, with_process, channel_at, with_channel, channel_number, trust_at, with_trust}
 use Rattle.image.specs.Image.{message_width, length_place, channel_width, record_width, variables_width, records_place, history_place, process_width, processes_place, channels_place, trust_place, image_width, byte, message_of, slot_in, channel_in, pending_of, record_in, history_in, variables_of, variables_in, process_in, decoded, no_system, system_in, Becomes}
-use Rattle.image.specs.Places.{start, row_after, process_row, record_row, entry_row, channel_row, slot_row, trust_row, bytes_read}
+use Rattle.image.specs.Places.{image_start, row_after, process_row, record_row, entry_row, channel_row, slot_row, trust_row, bytes_read}
 use Rattle.image.proofs.Laws.{Local, Outside, past, wider, part_same, kept, rows_local, row_at, row_within, reading, read_back, Changed, row_changed}
 
 -- ---- each part looks at its own bytes only
@@ -45,8 +45,8 @@ process_local b c h =
 
 -- ---- bytes that are an image, and others
 by_length : (b : List ℕ) (P : Option ℕ → System → Type 0) → (length b ≡ image_width → P (Some 0) (decoded b)) → ((length b ≡ image_width → ⊥) → P None no_system)
-    → P (start b) (system_in b)
-unfolding start system_in pick
+    → P (image_start b) (system_in b)
+unfolding image_start system_in pick
 by_length b P image other = go (eqb (length b) image_width) refl
   where
     go : (t : Bool) → eqb (length b) image_width ≡ t → P (pick t (Some 0) None) (pick t (decoded b) no_system)

@@ -75,7 +75,7 @@ fn write<const N: usize>(image: &mut [u8], at: Option<usize>, bytes: [u8; N])
 
 // ---- where each part begins, if the bytes are an image and there is such a part
 
-#[tactic(auto, unfolding(crate::specs::Places::process_row, crate::specs::Places::row_after, crate::specs::Places::start, view::specs::Logic::pick))]
+#[tactic(auto, unfolding(crate::specs::Places::process_row, crate::specs::Places::row_after, crate::specs::Places::image_start, view::specs::Logic::pick))]
 fn process_place(image: &[u8], p: ProcessId) -> Option<usize>
     ensures place { result ≡ process_row image.now p.0 }
     ensures within { IfSome result (λ r. r + process_width ≤ length image.now) }
@@ -107,7 +107,7 @@ fn entry_place(image: &[u8], p: ProcessId, i: GroupIndex) -> Option<usize>
 }
 
 // The channel from process q to process p.
-#[tactic(auto, using(system::proofs::Laws::no_sender, system::proofs::Laws::no_receiver, system::proofs::Laws::sender_and_receiver), unfolding(crate::specs::Places::channel_row, crate::specs::Places::row_after, crate::specs::Places::start, view::specs::Logic::pick))]
+#[tactic(auto, using(system::proofs::Laws::no_sender, system::proofs::Laws::no_receiver, system::proofs::Laws::sender_and_receiver), unfolding(crate::specs::Places::channel_row, crate::specs::Places::row_after, crate::specs::Places::image_start, view::specs::Logic::pick))]
 fn channel_place(image: &[u8], q: ProcessId, p: ProcessId) -> Option<usize>
     ensures place { result ≡ channel_row image.now q.0 p.0 }
     ensures within { IfSome result (λ r. r + channel_width ≤ length image.now) }
@@ -139,7 +139,7 @@ fn length_place(image: &[u8], q: ProcessId, p: ProcessId) -> Option<usize>
 }
 
 // The set of those that process p may trust again.
-#[tactic(auto, unfolding(crate::specs::Places::trust_row, crate::specs::Places::row_after, crate::specs::Places::start, view::specs::Logic::pick))]
+#[tactic(auto, unfolding(crate::specs::Places::trust_row, crate::specs::Places::row_after, crate::specs::Places::image_start, view::specs::Logic::pick))]
 fn trust_place(image: &[u8], p: ProcessId) -> Option<usize>
     ensures place { result ≡ trust_row image.now p.0 }
     ensures within { IfSome result (λ r. r + 1 ≤ length image.now) }

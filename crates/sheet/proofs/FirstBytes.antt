@@ -22,7 +22,7 @@ use Rattle.sheet.specs.declared.parse.Line.{Line}
 use Rattle.sheet.specs.declared.parse.Line.TheVariants.{Step, Settle}
 use Rattle.sheet.specs.Grammar.{Piece, byte, size, digit, view, Form, form, piece, value_of, from_column, passed, ended, onward, some}
 use Rattle.sheet.specs.Parse.{process, first_forms, later_forms, opened, parsed}
-use Rattle.sheet.specs.Cursor.{◌>>=◌, byte_at, text_at, digit_at, process_at, view_at, end_at, cut_at}
+use Rattle.sheet.specs.Cursor.{◌>>=◌, byte_at, text_at, digit_at, process_named_at, view_at, end_at, cut_at}
 use Rattle.sheet.proofs.Forms.{bad, read_from_lem, goes_on, is_stuck, breaks_off, ends, same_next}
 use Rattle.sheet.proofs.Parsing.{then_same, then_then, gives_up, Byte, byte_is, byte_differs, byte_column, ahead, read_at, size_read, digit_read, text_read, process_read, end_read, Shut, AllShut, none, also, view_read}
 
@@ -130,13 +130,13 @@ two_fields = byte 32 ∷ digit ∷ byte 32 ∷ digit ∷ []
 
 module _ (act : ℕ → ℕ → Action) (l : List ℕ) (c k : ℕ) (e : byte_at 0 255 l 0 ≡ Ok (c, k))
     (left : flat_map (onward c) later_forms ≡ map (ahead two_fields []) (wholly act ∷ partly act ∷ [])) where
-  digits_read : parsed l ≡ (process_at l k >>= λ p. process_at l p.1 >>= λ q. step_at (act p.0.0 q.0.0) l q.1)
+  digits_read : parsed l ≡ (process_named_at l k >>= λ p. process_named_at l p.1 >>= λ q. step_at (act p.0.0 q.0.0) l q.1)
   unfolding some
   digits_read =
       kind l c k _ e left refl
       ∙ process_read (wholly act) (partly act ∷ []) l (byte 32 ∷ digit ∷ []) [] k
-      ∙ then_same (process_at l k) _ _
-      (λ p e. process_read (wholly act) (partly act ∷ []) l [] (p.0.0 ∷ []) p.1 ∙ then_same (process_at l p.1) _ _ (λ q e. rest_read act p.0.0 q.0.0 l q.1))
+      ∙ then_same (process_named_at l k) _ _
+      (λ p e. process_read (wholly act) (partly act ∷ []) l [] (p.0.0 ∷ []) p.1 ∙ then_same (process_named_at l p.1) _ _ (λ q e. rest_read act p.0.0 q.0.0 l q.1))
 
 abbrev receiving : ℕ → ℕ → Action
 receiving q p = Receive (process q) (process p)
@@ -145,11 +145,11 @@ abbrev responding : ℕ → ℕ → Action
 responding p q = Respond (process p) (process q)
 
 module _ (l : List ℕ) (b k : ℕ) (e : byte_at 0 255 l 0 ≡ Ok (b, k)) where
-  receive_read : b ≡ 116 → parsed l ≡ (process_at l k >>= λ q. process_at l q.1 >>= λ p. step_at (Receive q.0 p.0) l p.1)
+  receive_read : b ≡ 116 → parsed l ≡ (process_named_at l k >>= λ q. process_named_at l q.1 >>= λ p. step_at (Receive q.0 p.0) l p.1)
   unfolding bytes piece pick flat_map passed
   receive_read is = digits_read receiving l 116 k (rw is at e) refl
 
-  respond_read : b ≡ 97 → parsed l ≡ (process_at l k >>= λ p. process_at l p.1 >>= λ q. step_at (Respond p.0 q.0) l q.1)
+  respond_read : b ≡ 97 → parsed l ≡ (process_named_at l k >>= λ p. process_named_at l p.1 >>= λ q. step_at (Respond p.0 q.0) l q.1)
   unfolding bytes piece pick flat_map passed
   respond_read is = digits_read responding l 97 k (rw is at e) refl
 
@@ -170,21 +170,21 @@ shut : AllShut (wholly reporting ∷ partly reporting ∷ [])
 shut = also shut_wholly (also shut_partly none)
 
 module _ (l : List ℕ) (b k : ℕ) (e : byte_at 0 255 l 0 ≡ Ok (b, k)) where
-  report_read : b ≡ 114 → parsed l ≡ (process_at l k >>= λ p. view_at l p.1 >>= λ v. step_at (Report p.0 v.0) l v.1)
+  report_read : b ≡ 114 → parsed l ≡ (process_named_at l k >>= λ p. view_at l p.1 >>= λ v. step_at (Report p.0 v.0) l v.1)
   unfolding bytes piece pick flat_map passed some
   report_read is =
       kind l 114 k _ (rw is at e) refl refl
       ∙ process_read (wholly reporting) (partly reporting ∷ []) l (byte 32 ∷ view ∷ []) [] k
-      ∙ then_same (process_at l k) _ _
+      ∙ then_same (process_named_at l k) _ _
       (λ p e. view_read (wholly reporting) (partly reporting ∷ []) shut (p.0.0 ∷ []) l p.1 ∙ then_same (view_at l p.1) _ _ (λ v e. rest_read reporting p.0.0 v.0 l v.1))
 
   -- ---- a stop
-  crash_read : b ≡ 115 → parsed l ≡ (process_at l k >>= λ p. end_at l p.1 >>= λ end. Ok (Step (whole (Crash p.0))))
+  crash_read : b ≡ 115 → parsed l ≡ (process_named_at l k >>= λ p. end_at l p.1 >>= λ end. Ok (Step (whole (Crash p.0))))
   unfolding bytes piece pick flat_map passed some
   crash_read is =
       kind l 115 k _ (rw is at e) refl refl
       ∙ process_read (form (λ f. Step (whole (Crash (process (f 0))))) [] []) [] l [] [] k
-      ∙ then_same (process_at l k) _ _ (λ p e. end_read (λ f. Step (whole (Crash (process (f 0))))) (p.0.0 ∷ []) l p.1)
+      ∙ then_same (process_named_at l k) _ _ (λ p e. end_read (λ f. Step (whole (Crash (process (f 0))))) (p.0.0 ∷ []) l p.1)
 
   -- ---- a settling run
   settle_read : b ≡ 113 → parsed l ≡ (end_at l k >>= λ end. Ok Settle)
@@ -194,10 +194,10 @@ module _ (l : List ℕ) (b k : ℕ) (e : byte_at 0 255 l 0 ≡ Ok (b, k)) where
 -- ---- a line by its first byte, which is read
 unfoldable pub form_at : ℕ → List ℕ → ℕ → Result Line BadFrom
 form_at b l at =
-    pick (eqb b (code "r")) (process_at l at >>= λ p. view_at l p.1 >>= λ v. step_at (Report p.0 v.0) l v.1)
-    (pick (eqb b (code "t")) (process_at l at >>= λ q. process_at l q.1 >>= λ p. step_at (Receive q.0 p.0) l p.1)
-    (pick (eqb b (code "a")) (process_at l at >>= λ p. process_at l p.1 >>= λ q. step_at (Respond p.0 q.0) l q.1)
-    (pick (eqb b (code "s")) (process_at l at >>= λ p. end_at l p.1 >>= λ end. Ok (Step (whole (Crash p.0))))
+    pick (eqb b (code "r")) (process_named_at l at >>= λ p. view_at l p.1 >>= λ v. step_at (Report p.0 v.0) l v.1)
+    (pick (eqb b (code "t")) (process_named_at l at >>= λ q. process_named_at l q.1 >>= λ p. step_at (Receive q.0 p.0) l p.1)
+    (pick (eqb b (code "a")) (process_named_at l at >>= λ p. process_named_at l p.1 >>= λ q. step_at (Respond p.0 q.0) l q.1)
+    (pick (eqb b (code "s")) (process_named_at l at >>= λ p. end_at l p.1 >>= λ end. Ok (Step (whole (Crash p.0))))
     (pick (eqb b (code "q")) (end_at l at >>= λ end. Ok Settle) (Err (from_column 1))))))
 
 module _ (l : List ℕ) where

@@ -20,7 +20,7 @@ use Rattle.std.specs.Prelude.{Result, Ok, Err, IsErrAnd}
 use Rattle.std.proofs.lemmas.Result.{err_from_is_err_and}
 use Rattle.sheet.specs.declared.parse.BadFrom.{BadFrom}
 use Rattle.sheet.specs.Grammar.{Piece, byte, size, digit, view, more, Form, form, rises, value_of, from_column, when, passed, ended, onward, ends_as, some}
-use Rattle.sheet.specs.Cursor.{◌>>=◌, byte_at, text_at, digit_at, process_at, risen, some_view, view_from, view_at, end_at}
+use Rattle.sheet.specs.Cursor.{◌>>=◌, byte_at, text_at, digit_at, process_named_at, risen, some_view, view_from, view_at, end_at}
 use Rattle.sheet.proofs.Forms.{bad, read_from, goes_on, is_stuck, breaks_off, ends, same_next, same_end}
 
 -- ---- the code's `?`
@@ -153,8 +153,8 @@ module _ {A : Type 0} (x : Form A) (xs : List (Form A)) (l : List ℕ) where
       ∙ sym (then_then (byte_at c c l at) _ _)
 
   pub process_read : (ps : List Piece) (fs : List ℕ) (at : ℕ)
-      → reading (byte 32 ∷ digit ∷ ps) fs at ≡ (process_at l at >>= λ p. reading ps (fs ++ (p.0.0 ∷ [])) p.1)
-  unfolding process_at bytes
+      → reading (byte 32 ∷ digit ∷ ps) fs at ≡ (process_named_at l at >>= λ p. reading ps (fs ++ (p.0.0 ∷ [])) p.1)
+  unfolding process_named_at bytes
   process_read ps fs at =
       text_read (bytes " ") (digit ∷ ps) fs at
       ∙ then_same (text_at (bytes " ") l at) _ _ (λ s e. digit_read ps fs s.1 ∙ sym (then_then (digit_at l s.1) _ _))

@@ -38,8 +38,8 @@ text_at (c ∷ t) l at = byte_at c c l at >>= λ b. text_at t l b.1
 unfoldable pub digit_at : List ℕ → ℕ → Result (ℕ × ℕ) BadFrom
 digit_at l at = byte_at (code "0") (code "9") l at >>= λ b. Ok (value_of b.0, b.1)
 
-unfoldable pub process_at : List ℕ → ℕ → Result (ProcessId × ℕ) BadFrom
-process_at l at = text_at (bytes " ") l at >>= λ s. digit_at l s.1 >>= λ d. Ok (process d.0, d.1)
+unfoldable pub process_named_at : List ℕ → ℕ → Result (ProcessId × ℕ) BadFrom
+process_named_at l at = text_at (bytes " ") l at >>= λ s. digit_at l s.1 >>= λ d. Ok (process d.0, d.1)
 
 -- digits each above the last one, and none above 8, added to a view; `at` is the place of the first
 unfoldable pub risen : ℕ → ℕ → ℕ → List ℕ → ℕ × ℕ

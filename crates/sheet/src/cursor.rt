@@ -1,5 +1,5 @@
 // How a line is read: piece by piece, from its first byte on.
-#![tactic(auto, using(crate::proofs::Parsing::steps), unfolding(view::specs::Logic::pick, print::specs::Text::bytes, crate::specs::Cursor::byte_at, crate::specs::Cursor::digit_at, crate::specs::Cursor::process_at, crate::specs::Cursor::some_view, crate::specs::Cursor::view_at, crate::specs::Cursor::end_at, crate::specs::Cursor::cut_at))]
+#![tactic(auto, using(crate::proofs::Parsing::steps), unfolding(view::specs::Logic::pick, print::specs::Text::bytes, crate::specs::Cursor::byte_at, crate::specs::Cursor::digit_at, crate::specs::Cursor::process_named_at, crate::specs::Cursor::some_view, crate::specs::Cursor::view_at, crate::specs::Cursor::end_at, crate::specs::Cursor::cut_at))]
 
 ghost use Rattle.std.specs.Prelude.{◌≤◌, length};
 
@@ -17,7 +17,7 @@ pub struct Cursor<'a> {
 
 impl Cursor<'_> {
     ghost use Rattle.std.specs.Prelude.{◌≡◌, OnErr};
-    ghost use Rattle.sheet.specs.Cursor.{Reads, byte_at, text_at, digit_at, process_at, view_at, end_at, cut_at};
+    ghost use Rattle.sheet.specs.Cursor.{Reads, byte_at, text_at, digit_at, process_named_at, view_at, end_at, cut_at};
 
     // The next byte, from `low` to `high`.
     pub fn byte(&mut self, low: u8, high: u8) -> Result<u8, BadFrom>
@@ -52,7 +52,7 @@ impl Cursor<'_> {
 
     // ` P`: the process that it names.
     pub fn process(&mut self) -> Result<ProcessId, BadFrom>
-        ensures { Reads process_at self.old result self.new }
+        ensures { Reads process_named_at self.old result self.new }
     {
         self.text(b" ")?;
         Ok(ProcessId(self.digit()?))
