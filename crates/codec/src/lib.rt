@@ -96,8 +96,8 @@ fn process_bytes(p: Process) -> [u8; PROCESS]
     bytes
 }
 
-// The image of a system; bytes of another length stay as they are. Never inlined: with it in a caller's loop clang does not end
-// (program `by_value`).
+// The image of a system; bytes of another length stay as they are. Never inlined: with this in a caller's loop clang had not ended
+// after a quarter of an hour (program `by_value`).
 #[inline(never)]
 pub fn encode(s: System, image: &mut [u8])
     ensures { image.new ≡ pick (eqb (length image.old) image_width) (encoded s) image.old }

@@ -190,10 +190,11 @@ module _ (b : List ℕ) (r : ℕ) (room : r + channel_width ≤ length b) where
   empty_changed l = record { long = refl; outside = unchanged; inside = rw (here, le-ltb 0 (byte (r + length_place) b) l) }
 
   module _ (q p : ℕ) (found : channel_row b q p ≡ Some r) where
-    pub push_put : (c : List ℕ) (m : Message) → byte (r + length_place) b < 8
-        → c ≡ with_bytes (set b (r + length_place) (byte (r + length_place) b + 1)) (Some (r + message_width * byte (r + length_place) b)) (message_bytes m)
+    pub push_put : (c : List ℕ) (s : ℕ) (m : Message) → byte (r + length_place) b < 8
+        → s ≡ r + message_width * byte (r + length_place) b
+        → c ≡ with_bytes (set b (r + length_place) (byte (r + length_place) b + 1)) (Some s) (message_bytes m)
         → Becomes (with_channel (system_in b) q p (pushed (channel_at (system_in b) q p) m)) b c
-    push_put c m l e = channel_put b c q p (λ y. pushed y m) (rw (found, e) (push_changed m l))
+    push_put c s m l is e = channel_put b c q p (λ y. pushed y m) (rw (found, e, is) (push_changed m l))
 
     pub full_put : (m : Message) → 8 ≤ byte (r + length_place) b → Becomes (with_channel (system_in b) q p (pushed (channel_at (system_in b) q p) m)) b b
     full_put m l = channel_put b b q p (λ y. pushed y m) (rw found (full_changed m l))

@@ -262,7 +262,7 @@ pub fn put_variables(image: &mut [u8], p: ProcessId, x: Variables)
 }
 
 // What process p has recorded from process q.
-#[tactic(auto, using(crate::proofs::Parts::pending_read))]
+#[tactic(auto, using(crate::proofs::Parts::pending_read), unfolding(crate::specs::Places::record_row, crate::specs::Places::row_after))]
 pub fn pending_at(image: &[u8], p: ProcessId, q: ProcessId) -> Option<Proposal>
     ensures { result ≡ pending_at (process_at (system_in image.now) p.0) q.0 }
 {
@@ -277,7 +277,7 @@ pub fn put_pending(image: &mut [u8], p: ProcessId, q: ProcessId, x: Option<Propo
 }
 
 // The entry of process p at index i; the empty view where there is no such index.
-#[tactic(auto, using(crate::proofs::Parts::entry_read))]
+#[tactic(auto, using(crate::proofs::Parts::entry_read), unfolding(crate::specs::Places::entry_row, crate::specs::Places::row_after))]
 pub fn entry_at(image: &[u8], p: ProcessId, i: GroupIndex) -> u8
     ensures { result ≡ entry_at (process_at (system_in image.now) p.0).history i.0 }
 {
