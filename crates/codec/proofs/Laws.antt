@@ -13,7 +13,9 @@ use denote.Param.Members.{Mut}
 use Rattle.view.specs.Logic.{pick}
 use Rattle.view.proofs.Laws.{by_number}
 use Rattle.channel.specs.Channel.{empty_channel}
-use Rattle.image.specs.Image.{channel_width, concatenated, rows, byte, message_of, slot_in, channel_in}
+use Rattle.system.specs.declared.Variables.{Variables}
+use Rattle.system.specs.Process.{Pending}
+use Rattle.image.specs.Image.{channel_width, record_width, records_place, history_place, concatenated, rows, byte, message_of, slot_in, channel_in, record_in, history_in, variables_in, process_in}
 use Rattle.image.proofs.Laws.{Local, of_taken, rows_local}
 use Rattle.image.proofs.Parts.{byte_local}
 
@@ -86,6 +88,13 @@ pub bytes_made : {n : ℕ} {r : Option (Bor (List ℕ))} {x : Bor (List ℕ)} (P
 bytes_made {n = n} {x = x} P m b chunk some fits =
     let first : IsFirstChunk (take m b) x.now n = rw some at chunk in
     first.same ∙ bytes_rows n (take m b) first.enough ∙ rows_local (byte 0) 1 byte_local n b (take m b) (λ k l. get_or-take m b k 0 (omega arith))
+
+-- ---- a process by its parts, however each was made
+pub same_process : (b : List ℕ) (x : Variables) (y : List Pending) (e : List ℕ) → x ≡ variables_in b → y ≡ rows 8 record_width record_in (drop records_place b)
+    → e ≡ rows 32 1 (byte 0) (drop history_place b)
+    → record { variables = x; pending = y; history = record { entries = e } } ≡ process_in b
+unfolding process_in history_in
+same_process b x y e vs ps es = rw (vs, ps, es)
 
 -- ---- rows that are written
 flattened : {A : Type 0} (f : A → List ℕ) (xs : List A) → flat_map (λ b. b) (map f xs) ≡ concatenated f xs

@@ -48,7 +48,7 @@ module _ (order : List ℕ) where
   abbrev said : Order
   said = order_of (get_or order 0 0) (get_or order 1 0) (get_or order 2 0) (cut_of (get_or order 3 0))
 
-  says : 4 ≤ length order → order_at order 0 ≡ said
+  pub says : 4 ≤ length order → order_at order 0 ≡ said
   unfolding order_at pick
   says long = rw (lt-ltb 3 (length order - 0) (omega arith))
 
@@ -61,9 +61,6 @@ module _ (order : List ℕ) where
     pub no_kind : 4 ≤ length order → 3 < get_or order 0 0 → Gives (obeyed (system_in b) (order_at order 0)) b 8 b
     unfolding obeyed
     no_kind long high = refused_gives b _ BadLine (rw (says long, unknown_kind _ _ _ _ high))
-
-    pub obeys : (k : ℕ) (d : List ℕ) → 4 ≤ length order → Gives (obeyed (system_in b) said) b k d → Gives (obeyed (system_in b) (order_at order 0)) b k d
-    obeys k d long gives = rw (says long) gives
 
     pub not_obeyed : 4 ≤ length order → get_or order 0 0 ≤ 3 → sound_system (system_in b) ≡ false → Gives (obeyed (system_in b) (order_at order 0)) b 1 b
     not_obeyed long low off = refused_gives b _ Unsound (rw (says long) (unsound_kind _ _ _ _ (system_in b) low off))

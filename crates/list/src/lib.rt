@@ -46,7 +46,7 @@ fn obey_kind(image: &mut [u8], kind: u8, x: u8, y: u8, cut: Cut) -> Result<(), R
 }
 
 // What an order does to an image whose system is sound, or is not.
-#[tactic(auto, using(crate::proofs::Lists::broken_off))]
+#[tactic(auto, using(crate::proofs::Lists::broken_off, crate::proofs::Lists::no_kind, crate::proofs::Lists::not_obeyed, crate::proofs::Lists::says))]
 fn obey(image: &mut [u8], good: bool, order: &[u8]) -> Result<(), Refusal>
     requires short { length order.now ≤ 4 }
     requires tested { good ≡ sound_system (system_in image.old) }
