@@ -1,6 +1,6 @@
 // Steps by value, as a program in Rattle does them. The first of eight units is told its view, all eight, a thousand times: it proposes
 // to all at each report that is done. A channel holds eight messages, so that eight reports are done and the others refused with 7.
-// A loop around one report: so clang did not end while `codec::encode` was inlined (docs/LOOK-BACK.md, c2).
+// A loop around one report: of such, clang had not ended after a quarter of an hour while `codec::encode` was inlined (docs/LOOK-BACK.md, c2).
 #![tactic(auto)]
 
 use membership::report;
@@ -27,5 +27,7 @@ fn main(rt: HostRuntime) {
         }
     }
     let waiting = system.channels[7].len;
-    let _ = println!(rt; "{done} done, {full} refused with 7, {waiting} wait from unit 1 to unit 8");
+    let _ = println!(rt;
+        "{done} done, {full} refused with 7, {waiting} wait from unit 1 to unit 8"
+    );
 }
